@@ -1,13 +1,24 @@
-// A library with one function.
+//! Data of the tokens, trees, files and tasks of a planner, and the definitions of what they mean.
 #![tactic(auto)]
 
-ghost use Rattle.std.specs.Prelude.{◌≡◌};
-ghost use Rattle.mf_model.specs.Echo.{echo_of};
+mod form;
+mod list;
+mod state;
+mod task;
+mod text;
+mod token;
+mod tree;
 
-// The `ensures` clause is the contract: what `echo` returns is `echo_of` of its argument, a definition
-// in `specs/Echo.antt`, which a caller's clause can cite too.
-pub fn echo(x: usize) -> usize
-    ensures { result ≡ echo_of x }
-{
-    x
-}
+pub use form::{
+    Domain, FileKind, Header, Problem, RawAction, RawCond, RawEffect, RawExpr, RawMetric, RawValue,
+    Typed, Word,
+};
+pub use list::List;
+pub use state::{Instance, PlainState};
+pub use task::{
+    Action, Atom, Cell, Cond, Effect, Expr, Metric, Object, Op, Relation, Symbol, Term, TypeName,
+    TypedTask, Types, Valued,
+};
+pub use text::Text;
+pub use token::{Kind, Span, Token, Tokens};
+pub use tree::Tree;
