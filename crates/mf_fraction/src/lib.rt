@@ -1,13 +1,8 @@
-// A library with one function.
+//! Exact fractions whose parts are at most 2^62 in size.
+//!
+//! Each operation gives the exact result in lowest terms, or says that it does not fit.
 #![tactic(auto)]
 
-ghost use Rattle.std.specs.Prelude.{◌≡◌};
-ghost use Rattle.mf_fraction.specs.Echo.{echo_of};
+mod fraction;
 
-// The `ensures` clause is the contract: what `echo` returns is `echo_of` of its argument, a definition
-// in `specs/Echo.antt`, which a caller's clause can cite too.
-pub fn echo(x: usize) -> usize
-    ensures { result ≡ echo_of x }
-{
-    x
-}
+pub use fraction::Frac;

@@ -1,0 +1,53 @@
+ghost use Rattle.std.proofs.Common.{rules};
+ghost use Rattle.std.specs.Cmp.Rules.{comparing, hashing};
+ghost use Rattle.std.specs.Hash as fed;
+ghost use Rattle.std.specs.Ordering.{on, eq_of_both, int_eq};
+ghost use Rattle.std.specs.Prelude.{◌++◌, nat_eq};
+
+use std::hash::{Hash, Hasher};
+use std::marker::Model;
+
+/// A fraction in lowest terms, with a denominator of at least 1 and both parts at most 2^62 in size.
+#[derive(Clone, Copy, Debug)]
+pub struct Frac {
+    numerator: i64,
+    denominator: u64,
+}
+
+impl Model for Frac {
+    ghost use Rattle.mf_fraction.specs.Exact.{Number};
+    ghost use Rattle.mf_fraction.specs.Kept.{Kept};
+
+    ghost Value = { Number };
+
+    ghost view = { λ a. record { num = a.numerator; den = a.denominator } };
+
+    ghost invariant = { λ a. Kept a.numerator a.denominator };
+
+    ghost inverse = { λ f. record { numerator = f.num; denominator = f.den } };
+}
+
+impl PartialEq for Frac {
+    ghost eq = { eq_of_both (on (λ f. f.num) int_eq) (on (λ f. f.den) nat_eq) };
+
+    ghost laws = { Prim.search (comparing, rules) };
+
+    fn eq(&self, other: &Frac) -> bool {
+        self.numerator == other.numerator && self.denominator == other.denominator
+    }
+}
+
+impl Eq for Frac {
+    ghost laws = { Prim.search (comparing, rules) };
+}
+
+impl Hash for Frac {
+    ghost hash_input = { λ f. fed.i64 f.num ++ fed.u64 f.den };
+
+    ghost respects_eq = { Prim.search (hashing, rules) };
+
+    fn hash<H: Hasher>(&self, state: &mut H) {
+        self.numerator.hash(state);
+        self.denominator.hash(state);
+    }
+}
