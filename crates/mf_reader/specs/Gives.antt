@@ -1,12 +1,8 @@
 -- What a call answered against what its definition gives: the value, or nothing.
 use Rattle.std.specs.Prelude.{◌≡◌, Option, Some, None, Result, Ok, Err, List, [], ◌∷◌, ◌++◌}
+pub use Rattle.mf_model.specs.Options.{◌>>=◌, each}
 use Rattle.mf_reader.specs.declared.fault.Refusal.{Refusal}
 use Rattle.mf_reader.specs.declared.fault.Refusal.TheVariants.{Refused, Memory}
-
-infixl 10 ◌>>=◌
-abbrev pub ◌>>=◌ : {A B : Type 0} → Option A → (A → Option B) → Option B
-None >>= f = None
-(Some x) >>= f = f x
 
 -- want of memory says nothing of the definition
 abbrev pub Refuses : {A : Type 0} → Refusal → Option A → Type 0
@@ -16,11 +12,6 @@ Refuses Memory read = Unit {0}
 abbrev pub Gives : {A : Type 0} → Result A Refusal → Option A → Type 0
 Gives (Ok x) read = read ≡ Some x
 Gives (Err e) read = Refuses e read
-
--- each item read in turn
-abbrev pub each : {A B : Type 0} → (A → Option B) → List A → Option (List B)
-each f [] = Some []
-each f (x ∷ xs) = f x >>= (λ y. each f xs >>= (λ ys. Some (y ∷ ys)))
 
 -- what was read so far joined with the rest
 abbrev pub with_front : {A : Type 0} → List A → Option (List A) → Option (List A)

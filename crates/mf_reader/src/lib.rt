@@ -3,8 +3,11 @@
 
 mod actions;
 mod atoms;
+mod declared;
 mod domain;
 mod fault;
+mod names;
 mod parts;
 mod problem;
+mod tables;
 mod words;
