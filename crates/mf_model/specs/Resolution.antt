@@ -48,7 +48,7 @@ number_of names name = position (λ own. bytes_eq own name) names
 -- no name stands twice
 abbrev pub are_distinct : List (List ℕ) → Bool
 are_distinct [] = true
-are_distinct (name ∷ names) = not (list_any (λ other. bytes_eq other name) names) && are_distinct names
+are_distinct (name ∷ names) = not (list_any (λ other. bytes_eq name other) names) && are_distinct names
 
 -- the names of parameters: at most 32, no two the same
 unfoldable pub parameters_of : List Typed → Option (List (List ℕ))

@@ -3,6 +3,8 @@ use Rattle.std.specs.Prelude.{◌≡◌, ℕ, ◌≤◌, Bool, true, false, if�
 use Rattle.mf_model.specs.declared.form.Domain.{Domain}
 use Rattle.mf_model.specs.declared.form.Problem.{Problem}
 use Rattle.mf_model.specs.declared.form.Header.{Header}
+use Rattle.mf_model.specs.declared.form.RawCond.{RawCond}
+use Rattle.mf_model.specs.declared.task.Atom.{Atom}
 use Rattle.mf_model.specs.declared.form.RawAction.{RawAction}
 use Rattle.mf_model.specs.declared.task.TypedTask.{TypedTask}
 use Rattle.mf_model.specs.declared.task.TypeName.{TypeName}
@@ -38,3 +40,6 @@ GivesDeclared (Err e) read = Refuses e read
 pub record IsSmall (declared : Declared) : Type 0 where
   pub objects : length declared.objects ≤ 65535
   pub predicates : length declared.predicates ≤ 10000
+
+abbrev pub facts_of : Declared → List RawCond → Option (List Atom)
+facts_of declared = each (fact_of declared)

@@ -2,7 +2,9 @@
 #![tactic(auto)]
 
 mod actions;
+mod atomic;
 mod atoms;
+mod compound;
 mod declared;
 mod domain;
 mod fault;
