@@ -12,4 +12,5 @@ mod names;
 mod parts;
 mod problem;
 mod tables;
+mod task;
 mod words;
