@@ -1,0 +1,5 @@
+pub mod Classes
+pub mod Comments
+pub mod Gaps
+pub mod Steps
+pub mod Unique
