@@ -3,3 +3,4 @@ pub mod Comments
 pub mod Gaps
 pub mod Steps
 pub mod Unique
+pub mod Folds

@@ -1,12 +1,15 @@
 -- A file with a fault has no tokens, and any other file has one list of them.
-use Rattle.std.proofs.Common.{◌≡◌, ℕ, suc, ◌<◌, ◌≤◌, Bool, true, false, List, [], ◌∷◌, length, get_or, sym, refl, ap, ◌∙◌, subst, inl, inr, arith}
+use Rattle.std.proofs.Common.{◌≡◌, ℕ, suc, ◌+◌, ◌-◌, ◌<◌, ◌≤◌, Bool, true, false, List, [], ◌∷◌, length, get_or, sym, refl, ap, ◌∙◌, subst, inl, inr, arith}
 use Rattle.std.proofs.lemmas.Bool.{cases_lt, false≢true}
 use Rattle.std.proofs.lemmas.List.{get_or_past}
+use Rattle.std.proofs.lemmas.List.Elements.{All-nil, All-cons}
 use Rattle.mf_model.specs.declared.token.Span.{Span}
 use Rattle.mf_model.specs.declared.token.Token.{Token}
 use Rattle.mf_model.specs.Tokens.{is_word, is_blank, in_comment, cleared, without_comments, kind_of, text_of, AreBlank, AreTokensFrom, IsTokens, IsTokenAt, IsBracketAt, IsWordAt, BadByteAt, TooLongAt}
 use Rattle.mf_lex.specs.declared.fault.LexFault.{LexFault}
 use Rattle.mf_lex.specs.declared.fault.LexFault.TheVariants.{BadByte, TooLong, Memory}
+use Rattle.std.specs.List.{All}
+use Rattle.mf_lex.specs.Growth.{InFile}
 use Rattle.mf_lex.specs.Reading.{IsLexFault, NoTokens}
 use Rattle.mf_lex.proofs.Classes.{bracket_not_word, bracket_not_blank, word_not_blank, end_not_word, end_not_bracket}
 use Rattle.mf_lex.proofs.Steps.{no_fault_blank, no_fault_token}
@@ -130,3 +133,24 @@ unique_from s at (t ∷ ts) (r ∷ rs) h k =
 
 pub unique : (s : List ℕ) (ts rs : List Token) → IsTokens s ts → IsTokens s rs → ts ≡ rs
 unique s ts rs h k = unique_from s 0 ts rs h k
+
+-- each token lies in the file
+
+ends_within : (s : List ℕ) (t : Token) → IsTokenAt s t → t.span.end ≤ length s
+ends_within s t placed =
+    elim placed.place [
+      | inl b ↦ (let one = b.one in let lt = starts_within s t placed in omega arith)
+      | inr w ↦ elim (cases_lt (t.span.end - 1) (length s)) [
+        | inl lt ↦ (let b = w.begins in omega arith)
+        | inr ge ↦ absurd (false≢true (sym (end_not_word _ (past s (t.span.end - 1) ge)) ∙ w.inside (t.span.end - 1) (let b = w.begins in omega arith) (let b = w.begins in omega arith)))
+      ]
+    ]
+
+starts_first : (s : List ℕ) (t : Token) → IsTokenAt s t → t.span.start ≤ t.span.end
+starts_first s t placed =
+    elim placed.place [ inl b ↦ (let one = b.one in omega arith) | inr w ↦ (let b = w.begins in omega arith) ]
+
+pub in_file : (s : List ℕ) (at : ℕ) (ts : List Token) → AreTokensFrom s at ts → All (InFile s) ts
+in_file s at [] h = All-nil (InFile s)
+in_file s at (t ∷ ts) h =
+    All-cons (InFile s) t ts (record { order = starts_first s t h.2; within = ends_within s t h.2 }) (in_file s t.span.end ts h.3)

@@ -3,8 +3,11 @@
 
 mod bytes;
 mod fault;
+mod growth;
 mod lexer;
+mod lists;
 mod words;
 
 pub use fault::{LexFault, TreeFault};
 pub use lexer::tokens;
+pub use lists::tree;
