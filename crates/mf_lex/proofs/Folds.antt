@@ -1,11 +1,10 @@
 -- What the folds over a tree give for a word and for a list.
-use Rattle.std.proofs.Common.{◌≡◌, ℕ, ◌+◌, List, [], ◌∷◌, ◌++◌, map, sym, refl, ap, ◌∙◌, rules}
+use Rattle.std.proofs.Common.{◌≡◌, ℕ, ◌+◌, List, [], ◌∷◌, ◌++◌, map, rules}
 use Rattle.mf_model.specs.declared.token.Span.{Span}
-use Rattle.mf_model.specs.declared.token.Token.{Token}
 use Rattle.mf_model.specs.declared.token.Kind.{Kind}
 use Rattle.mf_model.specs.declared.tree.Tree.{Tree, the_lemmas}
 use Rattle.mf_model.specs.declared.tree.Tree.TheVariants.{Leaf, Branch}
-use Rattle.mf_model.specs.Trees.{TreeWord, flat, flat_step, depth, depth_step, greatest, words, words_step, joined, left_of, right_of}
+use Rattle.mf_model.specs.Trees.{flat, depth, greatest, words, joined, left_of, right_of}
 
 pub flat_leaf : (kind : Kind) (text : List ℕ) (span : Span) → flat (Leaf kind text span) ≡ (record { kind = kind; span = span }) ∷ []
 flat_leaf kind text span = search (rules, the_lemmas)

@@ -4,3 +4,7 @@ pub mod Gaps
 pub mod Steps
 pub mod Unique
 pub mod Folds
+pub mod Counts
+pub mod OneByte
+pub mod Growing
+pub mod Whole

@@ -1,5 +1,5 @@
 -- A file with a fault has no tokens, and any other file has one list of them.
-use Rattle.std.proofs.Common.{◌≡◌, ℕ, suc, ◌+◌, ◌-◌, ◌<◌, ◌≤◌, Bool, true, false, List, [], ◌∷◌, length, get_or, sym, refl, ap, ◌∙◌, subst, inl, inr, arith}
+use Rattle.std.proofs.Common.{◌≡◌, ℕ, suc, ◌-◌, ◌<◌, ◌≤◌, Bool, true, false, List, [], ◌∷◌, length, get_or, sym, refl, ap, ◌∙◌, subst, inl, inr, arith}
 use Rattle.std.proofs.lemmas.Bool.{cases_lt, false≢true}
 use Rattle.std.proofs.lemmas.List.{get_or_past}
 use Rattle.std.proofs.lemmas.List.Elements.{All-nil, All-cons}
@@ -136,7 +136,7 @@ unique s ts rs h k = unique_from s 0 ts rs h k
 
 -- each token lies in the file
 
-ends_within : (s : List ℕ) (t : Token) → IsTokenAt s t → t.span.end ≤ length s
+pub ends_within : (s : List ℕ) (t : Token) → IsTokenAt s t → t.span.end ≤ length s
 ends_within s t placed =
     elim placed.place [
       | inl b ↦ (let one = b.one in let lt = starts_within s t placed in omega arith)

@@ -4,10 +4,12 @@
 mod bytes;
 mod fault;
 mod growth;
+mod laws;
 mod lexer;
 mod lists;
 mod words;
 
 pub use fault::{LexFault, TreeFault};
+pub use laws::{tokens_are_unique, tokens_have_no_fault, tree_is_unique};
 pub use lexer::tokens;
 pub use lists::tree;

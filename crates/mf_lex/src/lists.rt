@@ -1,7 +1,7 @@
 ghost use Rattle.std.specs.Prelude.{◌≡◌, length, IfOk, IfErr};
 ghost use Rattle.mf_model.specs.Tokens.{IsTokens};
 ghost use Rattle.mf_model.specs.Trees.{IsTreeOf};
-ghost use Rattle.mf_lex.specs.Growth.{Gives, tree_of};
+ghost use Rattle.mf_lex.specs.Answers.{IsTreeFault, NoTree};
 
 use crate::fault::TreeFault;
 use crate::growth::grown_tree;
@@ -13,7 +13,9 @@ use std::alloc::Global;
 pub fn tree(alloc: Global, source: &[u8], tokens: &Tokens) -> Result<Tree, TreeFault>
     requires tokens_are { IsTokens source.now tokens.now.list }
     requires length { tokens.now.length ≡ length source.now }
-    ensures equation { Gives result (tree_of source.now (length source.now) tokens.now.list) }
+    ensures tree_is { IfOk result (IsTreeOf source.now) }
+    ensures fault { IfErr result (IsTreeFault source.now tokens.now.list) }
+    ensures none { IfErr result (NoTree source.now) }
 {
     grown_tree(alloc, source, tokens.list.as_slice(), tokens.length)
 }
