@@ -7,6 +7,8 @@ mod growth;
 mod laws;
 mod lexer;
 mod lists;
+#[cfg(test)]
+mod tests;
 mod words;
 
 pub use fault::{LexFault, TreeFault};
