@@ -112,12 +112,12 @@ fact_of declared raw = fact_layer declared (out-RawCond raw)
 
 -- Declarations
 
--- `object`, the one type of an untyped task
+-- the one type `object` for each parameter
 abbrev pub object_types : {A : Type 0} → List A → List (List ℕ)
 object_types = map (λ _. 0 ∷ [])
 
 unfoldable pub symbol_of : Header → Option Symbol
-symbol_of h = parameters_of h.parameters >>= (λ names. Some (record { name = h.word.text; parameters = object_types names }))
+symbol_of h = parameters_of h.parameters >>= (λ names. Some (record { name = h.word.text; parameters = object_types h.parameters }))
 
 abbrev pub object_of : Typed → object.Object
 object_of t = record { name = t.word.text; types = 0 ∷ [] }
@@ -125,7 +125,7 @@ object_of t = record { name = t.word.text; types = 0 ∷ [] }
 unfoldable pub action_of : Declared → RawAction → Option Action
 action_of declared a =
     parameters_of a.parameters >>= (λ variables. cond_of declared variables a.condition >>= (λ condition. effect_of declared variables a.effect >>= (λ effect.
-    Some (record { name = a.word.text; parameters = object_types variables; condition = condition; effect = effect }))))
+    Some (record { name = a.word.text; parameters = object_types a.parameters; condition = condition; effect = effect }))))
 
 -- The task
 

@@ -1,11 +1,12 @@
 -- Names entered one by one are those of a list in which no name stands twice.
 use Rattle.std.proofs.Common.{◌≡◌, ℕ, Bool, true, false, cond, ◌&&◌, ◌||◌, not, if◌then◌else◌, Option, Some, None, is_some, List, [], ◌∷◌, ◌++◌, refl, ap, ◌∙◌, sym, arith, append_assoc}
-use Rattle.std.proofs.lemmas.List.{append-nil}
+use Rattle.std.proofs.lemmas.List.{append-nil, length-map}
 use Rattle.std.proofs.lemmas.Grind.{common_steps}
 use Rattle.std.proofs.lemmas.Bool.Decides.{nat_tests}
 use Rattle.std.specs.List.{list_any, position}
 use Rattle.std.specs.Str.{bytes_eq}
 use Rattle.mf_model.specs.Resolution.{number_of, are_distinct}
+use Rattle.mf_reader.specs.Gives.{◌>>=◌}
 use Rattle.mf_reader.specs.Tables.{extended}
 
 found-any : {A : Type 0} (p : A → Bool) (xs : List A) → is_some (position p xs) ≡ list_any p xs
@@ -65,4 +66,12 @@ new-nil (x ∷ xs) = new-nil xs
 pub extended-new : (names : List (List ℕ)) → extended [] names ≡ (if are_distinct names then Some names else None)
 extended-new names = extended_is [] names ∙ ap (λ b. if b && are_distinct names then Some names else None) (new-nil names)
 
+pub extended-append : (seen xs ys : List (List ℕ)) → extended seen (xs ++ ys) ≡ (extended seen xs >>= (λ s. extended s ys))
+extended-append seen [] ys = refl
+extended-append seen (x ∷ xs) ys = elim (is_some (number_of seen x)) as (λ b. (if b then None else extended (seen ++ x ∷ []) (xs ++ ys)) ≡ ((if b then None else extended (seen ++ x ∷ []) xs) >>= (λ s. extended s ys))) [ true ↦ refl | false ↦ extended-append (seen ++ x ∷ []) xs ys ]
+
 pub ruleset entered = (extended-new)
+
+pub ruleset appended = (extended-append)
+
+pub ruleset named = (extended-new, length-map)

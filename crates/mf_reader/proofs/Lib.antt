@@ -1,1 +1,4 @@
+pub mod AtomForms
 pub mod Entered
+pub mod Readings
+pub mod WordForms

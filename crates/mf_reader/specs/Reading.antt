@@ -15,6 +15,7 @@ use Rattle.mf_model.specs.declared.form.RawCond.{RawCond}
 use Rattle.mf_model.specs.declared.form.RawCond.TheVariants as c
 use Rattle.mf_model.specs.declared.form.RawEffect.{RawEffect}
 use Rattle.mf_model.specs.declared.form.RawEffect.TheVariants as e
+pub use Rattle.mf_model.specs.Forms.{Headed}
 use Rattle.mf_reader.specs.declared.atoms.AtomForm.{AtomForm}
 use Rattle.mf_reader.specs.Gives.{◌>>=◌, each}
 
@@ -75,11 +76,6 @@ abbrev pub is_word : List ℕ → Tree → Bool
 is_word text t = has_text text (out-Tree t)
 
 -- Lists with a head word
-
--- what stands behind a head word, and the span of the list
-pub record Headed : Type 0 where
-  pub parts : List Tree
-  pub span : Span
 
 abbrev pub behind_layer : List ℕ → Tree-F Tree → Option Headed
 behind_layer text (Tree-F.Branch (head ∷ parts) span) = if is_word text head then Some (record { parts = parts; span = span }) else None

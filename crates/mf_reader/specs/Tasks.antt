@@ -1,5 +1,5 @@
 -- The task of a domain and a problem as one reading.
-use Rattle.std.specs.Prelude.{◌≡◌, ℕ, Bool, true, false, if◌then◌else◌, ◌&&◌, nat_le, Option, Some, None, List, [], ◌∷◌, ◌++◌, map, length, codes}
+use Rattle.std.specs.Prelude.{◌≡◌, ℕ, ◌+◌, Bool, true, false, if◌then◌else◌, ◌&&◌, nat_le, Option, Some, None, List, [], ◌∷◌, ◌++◌, map, length, codes}
 use Rattle.mf_model.specs.declared.form.Domain.{Domain}
 use Rattle.mf_model.specs.declared.form.Problem.{Problem}
 use Rattle.mf_model.specs.declared.form.Header.{Header}
@@ -21,16 +21,16 @@ symbols_of = each symbol_of
 abbrev pub resolved_actions : Declared → List RawAction → Option (List Action)
 resolved_actions declared = each (action_of declared)
 
--- the names of a list of at most so many, none twice
-unfoldable pub listed : ℕ → List (List ℕ) → Option (List (List ℕ))
-listed limit names = if nat_le (length names) limit && are_distinct names then Some names else None
+-- the names of a list of so many, at most the limit, none twice
+unfoldable pub listed : ℕ → ℕ → List (List ℕ) → Option (List (List ℕ))
+listed limit count names = if nat_le count limit && are_distinct names then Some names else None
 
 -- the tables of names, within the limits
 unfoldable pub declare : Domain → Problem → Option Declared
 declare d p =
-    listed 10000 (header_names d.predicates) >>= (λ predicates.
-    listed 65535 (typed_names d.constants ++ typed_names p.objects) >>= (λ objects.
-    listed 1000 (action_names d.actions) >>= (λ actions.
+    listed 10000 (length d.predicates) (header_names d.predicates) >>= (λ predicates.
+    listed 65535 (length d.constants + length p.objects) (typed_names d.constants ++ typed_names p.objects) >>= (λ objects.
+    listed 1000 (length d.actions) (action_names d.actions) >>= (λ actions.
     Some (record { predicates = predicates; counts = map (λ h. length h.parameters) d.predicates; objects = objects }))))
 
 abbrev pub the_types : List TypeName

@@ -8,6 +8,7 @@ mod compound;
 mod declared;
 mod domain;
 mod fault;
+mod laws;
 mod names;
 mod parts;
 mod problem;

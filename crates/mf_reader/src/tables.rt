@@ -1,4 +1,4 @@
-ghost use Rattle.std.specs.Prelude.{◌≡◌, ℕ, map, length, IfOk};
+ghost use Rattle.std.specs.Prelude.{◌≡◌, ◌≤◌, ◌++◌, map, length, IfOk};
 ghost use Rattle.mf_model.specs.Resolution as meaning;
 ghost use Rattle.mf_reader.specs.Gives.{Gives};
 ghost use Rattle.mf_reader.specs.Tables as spec;
@@ -55,6 +55,20 @@ pub(crate) fn add_actions(
     Ok(())
 }
 
+/// Enters the names of typed items of two lists; a second one of the same name is refused.
+#[tactic(auto, using(crate::proofs::Entered::appended))]
+pub(crate) fn add_both(
+    alloc: Global,
+    names: &mut Names,
+    first: &[Typed],
+    second: &[Typed],
+) -> Result<(), Refusal>
+    ensures { spec.Extends result (spec.extended names.old (meaning.typed_names first.now ++ meaning.typed_names second.now)) names.new }
+{
+    add_typed(alloc, names, first)?;
+    add_typed(alloc, names, second)
+}
+
 /// The number of parameters of each predicate.
 pub(crate) fn counts(alloc: Global, headers: &[Header]) -> Result<List<usize>, AllocError>
     ensures { IfOk result (λ ns. ns ≡ map (λ h. length h.parameters) headers.now) }
@@ -67,9 +81,10 @@ pub(crate) fn counts(alloc: Global, headers: &[Header]) -> Result<List<usize>, A
 }
 
 /// The names of parameters: at most 32, no two the same.
-#[tactic(auto, using(crate::proofs::Entered::entered), unfolding(mf_model::specs::Resolution::parameters_of))]
+#[tactic(auto, using(crate::proofs::Entered::named), unfolding(mf_model::specs::Resolution::parameters_of))]
 pub(crate) fn parameters(alloc: Global, items: &[Typed]) -> Result<Names, Refusal>
-    ensures { Gives result (meaning.parameters_of items.now) }
+    ensures names { Gives result (meaning.parameters_of items.now) }
+    ensures few { IfOk result (λ names. length names ≤ 32) }
 {
     if items.len() > 32 {
         return Err(Refusal::Refused);

@@ -1,4 +1,4 @@
-ghost use Rattle.std.specs.Prelude.{◌≡◌, ◌++◌, [], ◌∷◌, map, OnOk, IfOk};
+ghost use Rattle.std.specs.Prelude.{◌≡◌, ◌≤◌, ◌+◌, ◌++◌, [], ◌∷◌, map, length, OnOk, IfOk};
 ghost use Rattle.mf_model.specs.Resolution as meaning;
 ghost use Rattle.mf_reader.specs.Gives.{Gives};
 ghost use Rattle.mf_reader.specs.Tables as tables;
@@ -9,9 +9,9 @@ use crate::compound::{condition, effect};
 use crate::declared::Declared;
 use crate::fault::Refusal;
 use crate::names::Names;
-use crate::tables::{add_actions, add_headers, add_typed, counts, parameters};
+use crate::tables::{add_actions, add_both, add_headers, counts, parameters};
 use mf_model::{
-    Action, Domain, Header, List, Object, Problem, RawAction, Symbol, Text, TypeName, Typed,
+    Action, Cond, Domain, Header, List, Object, Problem, RawAction, RawCond, Symbol, Text, TypeName, Typed,
     TypedTask, Types,
 };
 use std::alloc::{AllocError, Global};
@@ -142,9 +142,10 @@ fn types(alloc: Global) -> Result<List<TypeName>, AllocError>
 }
 
 /// The names of the predicates: at most 10,000, no two the same.
-#[tactic(auto, using(crate::proofs::Entered::entered), unfolding(crate::specs::Tasks::listed))]
+#[tactic(auto, using(crate::proofs::Entered::named), unfolding(crate::specs::Tasks::listed))]
 fn predicate_names(alloc: Global, headers: &[Header]) -> Result<Names, Refusal>
-    ensures { Gives result (spec.listed 10000 (tables.header_names headers.now)) }
+    ensures names { Gives result (spec.listed 10000 (length headers.now) (tables.header_names headers.now)) }
+    ensures few { IfOk result (λ names. length names ≤ 10000) }
 {
     if headers.len() > 10_000 {
         return Err(Refusal::Refused);
@@ -155,23 +156,23 @@ fn predicate_names(alloc: Global, headers: &[Header]) -> Result<Names, Refusal>
 }
 
 /// The names of the objects: at most 65,535, no two the same.
-#[tactic(auto, using(crate::proofs::Entered::entered), unfolding(crate::specs::Tasks::listed))]
+#[tactic(auto, using(crate::proofs::Entered::named), unfolding(crate::specs::Tasks::listed))]
 fn object_names(alloc: Global, constants: &[Typed], objects: &[Typed]) -> Result<Names, Refusal>
-    ensures { Gives result (spec.listed 65535 (meaning.typed_names constants.now ++ meaning.typed_names objects.now)) }
+    ensures names { Gives result (spec.listed 65535 (length constants.now + length objects.now) (meaning.typed_names constants.now ++ meaning.typed_names objects.now)) }
+    ensures few { IfOk result (λ names. length names ≤ 65535) }
 {
     if constants.len() > 65_535 || objects.len() > 65_535 - constants.len() {
         return Err(Refusal::Refused);
     }
     let mut names = Names::new(alloc);
-    add_typed(alloc, &mut names, constants)?;
-    add_typed(alloc, &mut names, objects)?;
+    add_both(alloc, &mut names, constants, objects)?;
     Ok(names)
 }
 
 /// The names of the actions: at most 1,000, no two the same.
-#[tactic(auto, using(crate::proofs::Entered::entered), unfolding(crate::specs::Tasks::listed))]
+#[tactic(auto, using(crate::proofs::Entered::named), unfolding(crate::specs::Tasks::listed))]
 fn action_names(alloc: Global, actions: &[RawAction]) -> Result<Names, Refusal>
-    ensures { Gives result (spec.listed 1000 (tables.action_names actions.now)) }
+    ensures { Gives result (spec.listed 1000 (length actions.now) (tables.action_names actions.now)) }
 {
     if actions.len() > 1_000 {
         return Err(Refusal::Refused);
@@ -184,7 +185,8 @@ fn action_names(alloc: Global, actions: &[RawAction]) -> Result<Names, Refusal>
 /// The tables of names of a domain and a problem.
 #[tactic(auto, unfolding(crate::specs::Tasks::declare))]
 fn declare(alloc: Global, domain: &Domain, problem: &Problem) -> Result<Declared, Refusal>
-    ensures { tables.GivesDeclared result (spec.declare domain.now problem.now) }
+    ensures declared { tables.GivesDeclared result (spec.declare domain.now problem.now) }
+    ensures small { IfOk result (λ it. tables.IsSmall (tables.seen_declared it)) }
 {
     let headers = domain.predicates.as_slice();
     let predicates = predicate_names(alloc, headers)?;
@@ -200,6 +202,15 @@ fn declare(alloc: Global, domain: &Domain, problem: &Problem) -> Result<Declared
         counts,
         objects,
     })
+}
+
+/// The goal, in which no variable stands.
+fn goal(alloc: Global, raw: &RawCond, declared: &Declared) -> Result<Cond, Refusal>
+    requires { tables.IsSmall (tables.seen_declared declared.now) }
+    ensures { Gives result (meaning.cond_of (tables.seen_declared declared.now) [] raw.now) }
+{
+    let variables = Names::new(alloc);
+    condition(alloc, raw, declared, &variables)
 }
 
 /// The task over the tables of names.
@@ -218,8 +229,7 @@ fn resolve(
     let predicates = symbols(alloc, domain.predicates.as_slice())?;
     let actions = actions(alloc, domain.actions.as_slice(), declared)?;
     let atoms = facts(alloc, problem.atoms.as_slice(), declared)?;
-    let variables = Names::new(alloc);
-    let goal = condition(alloc, &problem.goal, declared, &variables)?;
+    let goal = goal(alloc, &problem.goal, declared)?;
     Ok(TypedTask {
         types,
         objects,
