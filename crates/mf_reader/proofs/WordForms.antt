@@ -94,7 +94,7 @@ variables_read = record { sound = untyped_sound variable_reads; complete = untyp
 pub same_text : (xs ys : List ℕ) → bytes_eq xs ys ≡ true → xs ≡ ys
 same_text xs ys e = (bytes_eq-Decides xs ys).0 e
 
-text_same : (xs : List ℕ) → bytes_eq xs xs ≡ true
+pub text_same : (xs : List ℕ) → bytes_eq xs xs ≡ true
 text_same xs = (bytes_eq-Decides xs xs).1 refl
 
 text_sound : (text : List ℕ) (x : Tree-F Tree) → has_text text x ≡ true → (kind : Kind) × (span : Span) × (x ≡ Tree-F.Leaf kind text span)
@@ -151,7 +151,7 @@ predicate_reads = record { sound = predicate_sound; complete = predicate_complet
 pub not_when : {A : Type 0} (b : Bool) (o : Option A) → b ≡ false → (if b then o else None) ≡ None
 not_when b o e = ap (λ c. if c then o else None) e
 
-not_true : (b : Bool) → (b ≡ true → ⊥) → b ≡ false
+pub not_true : (b : Bool) → (b ≡ true → ⊥) → b ≡ false
 not_true true h = absurd (h refl)
 not_true false h = refl
 

@@ -1,11 +1,8 @@
-ghost use Rattle.std.specs.Prelude.{◌≡◌, Some};
-ghost use Rattle.mf_model.specs.declared.tree.Tree.{Tree};
-ghost use Rattle.mf_model.specs.declared.form.RawEffect.{RawEffect};
-ghost use Rattle.mf_model.specs.Forms.{IsEffect};
-ghost use Rattle.mf_reader.specs.Reading.{effect_of};
+ghost use Rattle.std.specs.Prelude.{◌≡◌, List, ℕ};
+ghost use Rattle.mf_model.specs.declared.task.TypedTask.{TypedTask};
+ghost use Rattle.mf_model.specs.Built.{IsTaskOfFiles};
 
-/// An effect is read exactly where the tree has its form.
-pub fn effects_agree()
-    ensures sound { (t : Tree) (raw : RawEffect) → effect_of t ≡ Some raw → IsEffect raw t }
-    ensures complete { (t : Tree) (raw : RawEffect) → IsEffect raw t → effect_of t ≡ Some raw }
+/// Two files give one task at most.
+pub fn task_is_unique()
+    ensures { (domain problem : List ℕ) (one other : TypedTask) → IsTaskOfFiles domain problem one → IsTaskOfFiles domain problem other → one ≡ other }
 {}

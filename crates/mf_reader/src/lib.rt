@@ -12,6 +12,11 @@ mod laws;
 mod names;
 mod parts;
 mod problem;
+mod read;
 mod tables;
 mod task;
 mod words;
+
+pub use fault::BuiltFault;
+pub use laws::task_is_unique;
+pub use read::read_built;

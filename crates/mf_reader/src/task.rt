@@ -156,7 +156,7 @@ fn predicate_names(alloc: Global, headers: &[Header]) -> Result<Names, Refusal>
 }
 
 /// The names of the objects: at most 65,535, no two the same.
-#[tactic(auto, using(crate::proofs::Entered::named), unfolding(crate::specs::Tasks::listed))]
+#[tactic(auto, using(crate::proofs::Entered::counted), unfolding(crate::specs::Tasks::listed))]
 fn object_names(alloc: Global, constants: &[Typed], objects: &[Typed]) -> Result<Names, Refusal>
     ensures names { Gives result (spec.listed 65535 (length constants.now + length objects.now) (meaning.typed_names constants.now ++ meaning.typed_names objects.now)) }
     ensures few { IfOk result (λ names. length names ≤ 65535) }

@@ -3,4 +3,4 @@ use Rattle.mf_model.specs.Resolution.{object_types}
 use Rattle.mf_reader.proofs.task.object_types.Given as goal
 
 abbrev pub invariant-loop-item : goal.invariant-loop-item
-invariant-loop-item l = l.out ≡ object_types (take l.item-index l.items)
+invariant-loop-item l = l.out ≡ object_types (take l._item-index l.items)
