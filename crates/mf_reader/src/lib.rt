@@ -18,5 +18,5 @@ mod task;
 mod words;
 
 pub use fault::BuiltFault;
-pub use laws::task_is_unique;
+pub use laws::{task_is_plain, task_is_unique};
 pub use read::read_built;
