@@ -93,7 +93,7 @@ terms_plain declared variables (w ∷ ws) ts e =
     let first = bound (term_of declared variables w) (λ y. terms_of declared variables ws >>= (λ rest. Some (y ∷ rest))) ts e in
     let later = bound (terms_of declared variables ws) (λ rest. Some (first.0 ∷ rest)) ts first.2 in
     subst (λ (v : List Term). are_plain_terms (length variables) (length declared.objects) v ≡ true) (some_is (first.0 ∷ later.0) ts later.2)
-      (and_true (is_plain_term (length variables) (length declared.objects) first.0) (are_plain_terms (length variables) (length declared.objects) later.0) (term_plain declared variables w first.0 first.1) (terms_plain declared variables ws later.0 later.1))
+    (and_true (is_plain_term (length variables) (length declared.objects) first.0) (are_plain_terms (length variables) (length declared.objects) later.0) (term_plain declared variables w first.0 first.1) (terms_plain declared variables ws later.0 later.1))
 
 -- the counts are those of the symbols
 abbrev count_of : Symbol → ℕ
@@ -120,8 +120,8 @@ AtomRead declared variables name ws n ts = (predicate_of declared name (length w
 atom_plain : (declared : Declared) (symbols : List Symbol) (variables : List (List ℕ)) (name : List ℕ) (ws : List Word) (n : ℕ) (ts : List Term) → CountsAre declared symbols → AtomRead declared variables name ws n ts → is_plain_atom symbols (length variables) (length declared.objects) n ts ≡ true
 atom_plain declared symbols variables name ws n ts counts h =
     and_true (has_count (slice_get symbols n) (length ts)) (are_plain_terms (length variables) (length declared.objects) ts)
-      (ap (λ (k : ℕ). has_count (slice_get symbols n) k) (each_length (term_of declared variables) ws ts h.1) ∙ predicate_plain declared symbols name (length ws) n counts h.0)
-      (terms_plain declared variables ws ts h.1)
+    (ap (λ (k : ℕ). has_count (slice_get symbols n) k) (each_length (term_of declared variables) ws ts h.1) ∙ predicate_plain declared symbols name (length ws) n counts h.0)
+    (terms_plain declared variables ws ts h.1)
 
 -- Conditions
 
@@ -141,7 +141,7 @@ conds_plain declared symbols variables (r ∷ rs) parts e =
     let first = bound (cond_of declared variables r.0) (λ y. rest >>= (λ ys. Some (y ∷ ys))) parts e in
     let later = bound rest (λ ys. Some (first.0 ∷ ys)) parts first.2 in
     subst (λ (v : List Cond). all_true (map (is_plain_cond symbols (length variables) (length declared.objects)) v) ≡ true) (some_is (first.0 ∷ later.0) parts later.2)
-      (and_true (is_plain_cond symbols (length variables) (length declared.objects) first.0) (all_true (map (is_plain_cond symbols (length variables) (length declared.objects)) later.0)) (r.1 first.0 first.1) (conds_plain declared symbols variables rs later.0 later.1))
+    (and_true (is_plain_cond symbols (length variables) (length declared.objects) first.0) (all_true (map (is_plain_cond symbols (length variables) (length declared.objects)) later.0)) (r.1 first.0 first.1) (conds_plain declared symbols variables rs later.0 later.1))
 
 abbrev StepPlain : Declared → List Symbol → List (List ℕ) → Option Cond → Type 0
 StepPlain declared symbols variables read = (cond : Cond) → read ≡ Some cond → is_plain_cond symbols (length variables) (length declared.objects) cond ≡ true
@@ -151,17 +151,17 @@ cond_step_plain declared symbols variables counts (RawCond-F.Atom predicate ws s
     let number = bound (predicate_of declared predicate.text (length ws)) (λ n. terms_of declared variables ws >>= (λ ts. Some (c.Atom n ts))) cond e in
     let terms = bound (terms_of declared variables ws) (λ ts. Some (c.Atom number.0 ts)) cond number.2 in
     subst (λ (v : Cond). is_plain_cond symbols (length variables) (length declared.objects) v ≡ true) (some_is (c.Atom number.0 terms.0) cond terms.2)
-      (plain_atom_is symbols (length variables) (length declared.objects) number.0 terms.0 ∙ atom_plain declared symbols variables predicate.text ws number.0 terms.0 counts (number.1, terms.1))
+    (plain_atom_is symbols (length variables) (length declared.objects) number.0 terms.0 ∙ atom_plain declared symbols variables predicate.text ws number.0 terms.0 counts (number.1, terms.1))
 cond_step_plain declared symbols variables counts (RawCond-F.And parts span) cond e =
     let read = bound (all_some (map (cond_of declared variables) (map (λ (q : (raw : RawCond) × CondPlain declared symbols variables raw). q.0) parts))) (λ cs. Some (c.And cs)) cond e in
     subst (λ (v : Cond). is_plain_cond symbols (length variables) (length declared.objects) v ≡ true) (some_is (c.And read.0) cond read.2)
-      (plain_and_is symbols (length variables) (length declared.objects) read.0 ∙ conds_plain declared symbols variables parts read.0 read.1)
+    (plain_and_is symbols (length variables) (length declared.objects) read.0 ∙ conds_plain declared symbols variables parts read.0 read.1)
 cond_step_plain declared symbols variables counts _ cond e = absurd (no_some cond e)
 
 pub cond_plain : (declared : Declared) (symbols : List Symbol) (variables : List (List ℕ)) → CountsAre declared symbols → (raw : RawCond) → CondPlain declared symbols variables raw
 cond_plain declared symbols variables counts = ind-RawCond (CondPlain declared symbols variables) (λ x y is.
     subst (λ z. CondPlain declared symbols variables (roll-RawCond z)) is (λ cond e.
-      cond_step_plain declared symbols variables counts y cond (sym (fold-roll-RawCond (Option Cond) (cond_step declared variables) (map-RawCond ((raw : RawCond) × CondPlain declared symbols variables raw) RawCond (λ r. r.0) y)) ∙ e)))
+    cond_step_plain declared symbols variables counts y cond (sym (fold-roll-RawCond (Option Cond) (cond_step declared variables) (map-RawCond ((raw : RawCond) × CondPlain declared symbols variables raw) RawCond (λ r. r.0) y)) ∙ e)))
 
 -- Effects
 
@@ -184,7 +184,7 @@ effects_plain declared symbols variables (r ∷ rs) parts h =
     let first = bound (effect_of declared variables r.0) (λ y. rest >>= (λ ys. Some (y ∷ ys))) parts h in
     let later = bound rest (λ ys. Some (first.0 ∷ ys)) parts first.2 in
     subst (λ (v : List Effect). all_true (map (is_plain_effect symbols (length variables) (length declared.objects)) v) ≡ true) (some_is (first.0 ∷ later.0) parts later.2)
-      (and_true (is_plain_effect symbols (length variables) (length declared.objects) first.0) (all_true (map (is_plain_effect symbols (length variables) (length declared.objects)) later.0)) (r.1 first.0 first.1) (effects_plain declared symbols variables rs later.0 later.1))
+    (and_true (is_plain_effect symbols (length variables) (length declared.objects) first.0) (all_true (map (is_plain_effect symbols (length variables) (length declared.objects)) later.0)) (r.1 first.0 first.1) (effects_plain declared symbols variables rs later.0 later.1))
 
 abbrev EffectStepPlain : Declared → List Symbol → List (List ℕ) → Option Effect → Type 0
 EffectStepPlain declared symbols variables read = (effect : Effect) → read ≡ Some effect → is_plain_effect symbols (length variables) (length declared.objects) effect ≡ true
@@ -194,22 +194,22 @@ effect_step_plain declared symbols variables counts (RawEffect-F.Add predicate w
     let number = bound (predicate_of declared predicate.text (length ws)) (λ n. terms_of declared variables ws >>= (λ ts. Some (e.Add n ts))) effect h in
     let terms = bound (terms_of declared variables ws) (λ ts. Some (e.Add number.0 ts)) effect number.2 in
     subst (λ (v : Effect). is_plain_effect symbols (length variables) (length declared.objects) v ≡ true) (some_is (e.Add number.0 terms.0) effect terms.2)
-      (plain_add_is symbols (length variables) (length declared.objects) number.0 terms.0 ∙ atom_plain declared symbols variables predicate.text ws number.0 terms.0 counts (number.1, terms.1))
+    (plain_add_is symbols (length variables) (length declared.objects) number.0 terms.0 ∙ atom_plain declared symbols variables predicate.text ws number.0 terms.0 counts (number.1, terms.1))
 effect_step_plain declared symbols variables counts (RawEffect-F.Delete predicate ws span) effect h =
     let number = bound (predicate_of declared predicate.text (length ws)) (λ n. terms_of declared variables ws >>= (λ ts. Some (e.Delete n ts))) effect h in
     let terms = bound (terms_of declared variables ws) (λ ts. Some (e.Delete number.0 ts)) effect number.2 in
     subst (λ (v : Effect). is_plain_effect symbols (length variables) (length declared.objects) v ≡ true) (some_is (e.Delete number.0 terms.0) effect terms.2)
-      (plain_delete_is symbols (length variables) (length declared.objects) number.0 terms.0 ∙ atom_plain declared symbols variables predicate.text ws number.0 terms.0 counts (number.1, terms.1))
+    (plain_delete_is symbols (length variables) (length declared.objects) number.0 terms.0 ∙ atom_plain declared symbols variables predicate.text ws number.0 terms.0 counts (number.1, terms.1))
 effect_step_plain declared symbols variables counts (RawEffect-F.Group parts span) effect h =
     let read = bound (all_some (map (effect_of declared variables) (map (λ (q : (raw : RawEffect) × EffectPlain declared symbols variables raw). q.0) parts))) (λ es. Some (e.Group es)) effect h in
     subst (λ (v : Effect). is_plain_effect symbols (length variables) (length declared.objects) v ≡ true) (some_is (e.Group read.0) effect read.2)
-      (plain_group_is symbols (length variables) (length declared.objects) read.0 ∙ effects_plain declared symbols variables parts read.0 read.1)
+    (plain_group_is symbols (length variables) (length declared.objects) read.0 ∙ effects_plain declared symbols variables parts read.0 read.1)
 effect_step_plain declared symbols variables counts _ effect h = absurd (no_some effect h)
 
 effect_plain : (declared : Declared) (symbols : List Symbol) (variables : List (List ℕ)) → CountsAre declared symbols → (raw : RawEffect) → EffectPlain declared symbols variables raw
 effect_plain declared symbols variables counts = ind-RawEffect (EffectPlain declared symbols variables) (λ x y is.
     subst (λ z. EffectPlain declared symbols variables (roll-RawEffect z)) is (λ effect h.
-      effect_step_plain declared symbols variables counts y effect (sym (fold-roll-RawEffect (Option Effect) (effect_step declared variables) (map-RawEffect ((raw : RawEffect) × EffectPlain declared symbols variables raw) RawEffect (λ r. r.0) y)) ∙ h)))
+    effect_step_plain declared symbols variables counts y effect (sym (fold-roll-RawEffect (Option Effect) (effect_step declared variables) (map-RawEffect ((raw : RawEffect) × EffectPlain declared symbols variables raw) RawEffect (λ r. r.0) y)) ∙ h)))
 
 -- Facts of the start
 
@@ -219,7 +219,7 @@ below_plain declared (w ∷ ws) ns h =
     let first = bound (number_of declared.objects w.text) (λ y. objects_of declared ws >>= (λ rest. Some (y ∷ rest))) ns h in
     let later = bound (objects_of declared ws) (λ rest. Some (first.0 ∷ rest)) ns first.2 in
     subst (λ (v : List ℕ). are_below (length declared.objects) v ≡ true) (some_is (first.0 ∷ later.0) ns later.2)
-      (and_true (nat_lt first.0 (length declared.objects)) (are_below (length declared.objects) later.0) (number_within declared.objects w.text first.0 first.1) (below_plain declared ws later.0 later.1))
+    (and_true (nat_lt first.0 (length declared.objects)) (are_below (length declared.objects) later.0) (number_within declared.objects w.text first.0 first.1) (below_plain declared ws later.0 later.1))
 
 abbrev made_atom : ℕ → List ℕ → Atom
 made_atom n ns = record { predicate = n; objects = ns }
@@ -229,9 +229,9 @@ fact_layer_plain declared symbols counts (RawCond-F.Atom predicate ws span) atom
     let number = bound (predicate_of declared predicate.text (length ws)) (λ n. objects_of declared ws >>= (λ os. Some (made_atom n os))) atom h in
     let objects = bound (objects_of declared ws) (λ os. Some (made_atom number.0 os)) atom number.2 in
     subst (λ (v : Atom). is_plain_fact symbols (length declared.objects) v ≡ true) (some_is (made_atom number.0 objects.0) atom objects.2)
-      (and_true (has_count (slice_get symbols number.0) (length objects.0)) (are_below (length declared.objects) objects.0)
-        (ap (λ (k : ℕ). has_count (slice_get symbols number.0) k) (each_length (λ w. number_of declared.objects w.text) ws objects.0 objects.1) ∙ predicate_plain declared symbols predicate.text (length ws) number.0 counts number.1)
-        (below_plain declared ws objects.0 objects.1))
+    (and_true (has_count (slice_get symbols number.0) (length objects.0)) (are_below (length declared.objects) objects.0)
+    (ap (λ (k : ℕ). has_count (slice_get symbols number.0) k) (each_length (λ w. number_of declared.objects w.text) ws objects.0 objects.1) ∙ predicate_plain declared symbols predicate.text (length ws) number.0 counts number.1)
+    (below_plain declared ws objects.0 objects.1))
 fact_layer_plain declared symbols counts _ atom h = absurd (no_some atom h)
 
 -- Declarations
@@ -256,7 +256,7 @@ symbol_plain h s read =
     let same = types_length h.parameters in
     let limit = few.0 in
     subst (λ (v : Symbol). IsPlainSymbol v × (length v.parameters ≡ length h.parameters)) (some_is (made_symbol h) s names.2)
-      (record { types = all_map IsObjectType (λ _. 0 ∷ []) (λ _. refl) h.parameters; limit = omega (arith, same, limit) }, same)
+    (record { types = all_map IsObjectType (λ _. 0 ∷ []) (λ _. refl) h.parameters; limit = omega (arith, same, limit) }, same)
 
 counts_same : (hs : List Header) (symbols : List Symbol) → each symbol_of hs ≡ Some symbols → map (λ h. length h.parameters) hs ≡ map count_of symbols
 counts_same [] symbols read = ap (map count_of) (some_is [] symbols read)
@@ -286,7 +286,8 @@ action_plain declared symbols counts raw action read =
       types = all_map IsObjectType (λ _. 0 ∷ []) (λ _. refl) raw.parameters;
       limit = omega (arith, same, limit);
       condition = true_is (is_plain_cond symbols (length (object_types raw.parameters)) (length declared.objects) condition.0) (subst (λ (n : ℕ). is_plain_cond symbols n (length declared.objects) condition.0 ≡ true) variables cond_is);
-      effect = true_is (is_plain_effect symbols (length (object_types raw.parameters)) (length declared.objects) effect.0) (subst (λ (n : ℕ). is_plain_effect symbols n (length declared.objects) effect.0 ≡ true) variables effect_is) })
+      effect = true_is (is_plain_effect symbols (length (object_types raw.parameters)) (length declared.objects) effect.0) (subst (λ (n : ℕ). is_plain_effect symbols n (length declared.objects) effect.0 ≡ true) variables effect_is);
+    })
 
 -- The task
 
@@ -318,7 +319,8 @@ plain_task d p task h =
       atoms = subst (λ (n : ℕ). All (λ atom. IsTrue (is_plain_fact symbols n atom)) task.atoms) objects (each_all (λ atom. IsTrue (is_plain_fact symbols (length declared.objects) atom)) (fact_of declared) (λ raw atom read. true_is (is_plain_fact symbols (length declared.objects) atom) (fact_layer_plain declared symbols counts (out-RawCond raw) atom read)) p.atoms task.atoms h.atoms);
       values = h.values;
       goal = true_is (is_plain_cond symbols 0 (length task.objects) task.goal) (subst (λ (n : ℕ). is_plain_cond symbols 0 n task.goal ≡ true) objects (cond_plain declared symbols [] counts p.goal task.goal h.goal));
-      metric = h.metric; }
+      metric = h.metric;
+    }
 
 pub plain_files : (domain problem : List ℕ) (task : TypedTask) → IsTaskOfFiles domain problem task → IsPlainTask task
 plain_files domain problem task h = plain_task h.domain h.problem task h.task_of

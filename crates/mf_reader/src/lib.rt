@@ -15,6 +15,8 @@ mod problem;
 mod read;
 mod tables;
 mod task;
+#[cfg(test)]
+mod tests;
 mod words;
 
 pub use fault::BuiltFault;
