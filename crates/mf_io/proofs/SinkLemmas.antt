@@ -3,7 +3,7 @@ use Rattle.std.proofs.Common.{◌≡◌, ℕ, ◌+◌, ◌-◌, ◌<◌, ◌≤�
 use Rattle.std.proofs.lemmas.List.{append_assoc, take_rest, length-drop}
 use Rattle.std.proofs.lemmas.Bool.{cases_lt}
 use Rattle.std.proofs.Math.Seq.{take-add}
-use Rattle.mf_io.specs.Sink.{Appends, AppendsFront, Rose, greatest_count}
+use Rattle.mf_io.specs.Sink.{Appends, AppendsFront, Rose}
 
 -- no bytes leave what is written as it was
 pub Appends-nothing : (written : Option (List ℕ)) → Appends [] written written

@@ -1,6 +1,7 @@
 -- What a put answers, what it leaves in the sink, and what a count of faults says.
-use Rattle.std.specs.Prelude.{◌≡◌, ℕ, ◌-◌, ◌^◌, ◌<◌, ◌≤◌, ◌⊎◌, Option, Result, Ok, Err, List, ◌++◌, length, take}
+use Rattle.std.specs.Prelude.{◌≡◌, ℕ, ◌<◌, ◌≤◌, ◌⊎◌, Option, Result, Ok, Err, List, ◌++◌, length, take}
 use Rattle.std.specs.Option.{option_map}
+use Rattle.mf_io.specs.Counts.{greatest_count}
 use Rattle.mf_io.specs.declared.sink.PutFault.{PutFault}
 use Rattle.mf_io.specs.declared.sink.PutFault.TheVariants.{Failed, Memory}
 
@@ -11,10 +12,6 @@ Appends bytes before after = after ≡ option_map (λ written. written ++ bytes)
 -- a front part of these bytes stands behind what was written before
 abbrev pub AppendsFront : List ℕ → Option (List ℕ) → Option (List ℕ) → Type 0
 AppendsFront bytes before after = (n : ℕ) × (n ≤ length bytes) × Appends (take n bytes) before after
-
--- where a count of faults stands still
-abbrev pub greatest_count : ℕ
-greatest_count = 2 ^ 64 - 1
 
 -- the count rose, or it stands at its end
 abbrev pub Rose : ℕ → ℕ → Type 0

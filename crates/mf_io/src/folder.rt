@@ -1,8 +1,9 @@
 ghost use Rattle.std.specs.Prelude.{◌≡◌, ℕ, List, Option, Err};
+ghost use Rattle.std.specs.Option.{option_copied};
 ghost use Rattle.mf_io.specs.declared.folder.Loading.{Loading};
-ghost use Rattle.mf_io.specs.Folder.{Loads};
+ghost use Rattle.mf_io.specs.Folder.{Loads, Noted, Answers, loaded_of, first_named};
 
-use super::{Memory, Text};
+use super::{List, Memory, Text};
 use std::alloc::Global;
 
 /// One load of a folder: the name that was asked for, and whether the load failed.
@@ -59,4 +60,41 @@ pub trait Folder {
         // What is held, and whether it is told, stays as it was under each name.
         ensures kept { held self.new ≡ held self.old }
         ensures memory { result ≡ Err LoadFault.Memory → self.new ≡ self.old };
+}
+
+// Notes the load of `name` in the log and hands its outcome on. Want of memory is not noted.
+pub(crate) fn note(
+    log: &mut List<Loading>,
+    name: Text,
+    outcome: Result<Loaded, LoadFault>,
+) -> Result<Loaded, LoadFault>
+    ensures { Noted name outcome log.old log.new result }
+{
+    let failed = match &outcome {
+        Ok(_) => false,
+        Err(LoadFault::Failed) => true,
+        Err(LoadFault::Memory) => return Err(LoadFault::Memory),
+    };
+    log.push(Loading { name, failed })?;
+    outcome
+}
+
+// The file with these bytes, if it has no more than allowed.
+pub(crate) fn copy_of(alloc: Global, bytes: &[u8], most: usize) -> Result<Loaded, LoadFault>
+    ensures { Answers (loaded_of most bytes.now) result }
+{
+    if bytes.len() > most {
+        return Ok(Loaded::TooLong);
+    }
+    Ok(Loaded::Whole(Text::from_slice(alloc, bytes)?))
+}
+
+// The bytes of the first file with this name.
+pub(crate) fn find_file<'a>(files: &'a [(Text, Text)], name: &[u8]) -> Option<&'a Text>
+    ensures { option_copied result ≡ first_named files.now name.now }
+{
+    files
+        .iter()
+        .find(|file| file.0.as_slice() == name)
+        .map(|file| &file.1)
 }

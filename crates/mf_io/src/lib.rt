@@ -2,11 +2,21 @@
 #![tactic(auto)]
 
 mod folder;
+mod honest;
 mod list;
+mod memory_folder;
+mod memory_sink;
+mod real_folder;
+mod real_sink;
 mod sink;
 mod text;
 
 pub use folder::{Folder, LoadFault, Loaded, Loading};
+pub use honest::{HonestFolder, HonestSink};
 pub use list::List;
+pub use memory_folder::MemoryFolder;
+pub use memory_sink::MemorySink;
+pub use real_folder::RealFolder;
+pub use real_sink::{RealErr, RealOut, RealSink};
 pub use sink::{PutFault, Sink, put_all};
 pub use text::{Memory, Text};

@@ -71,6 +71,14 @@ impl<T: Drop> List<T> {
         self.items.push(item)?;
         Ok(())
     }
+
+    /// Makes room for one more item.
+    pub fn reserve_one(&mut self) -> Result<(), Memory>
+        ensures { self.new ≡ self.old }
+    {
+        self.items.try_reserve(1)?;
+        Ok(())
+    }
 }
 
 impl<T: PartialEq> PartialEq for List<T> {
