@@ -1,8 +1,8 @@
 -- How puts that follow each other go together.
 use Rattle.std.proofs.Common.{◌≡◌, ℕ, ◌+◌, ◌-◌, ◌<◌, ◌≤◌, ◌⊎◌, Option, Some, None, List, [], ◌∷◌, ◌++◌, length, take, drop, sym, ◌∙◌, ap, refl, inl, inr, ⊎_elim, arith, rules, subst}
-use Rattle.std.proofs.lemmas.List.{append_assoc, take_rest, length-drop}
+use Rattle.std.proofs.lemmas.List.{append_assoc, take_rest, length-drop, length-append, take-append-le}
 use Rattle.std.proofs.lemmas.Bool.{cases_lt}
-use Rattle.std.proofs.Math.Seq.{take-add}
+use Rattle.std.proofs.Math.Seq.{take-add, take-append-add, take-length}
 use Rattle.mf_io.specs.Sink.{Appends, AppendsFront, Rose}
 
 -- no bytes leave what is written as it was
@@ -41,3 +41,32 @@ pub Rose-after : (first second third : ℕ) → first ≤ second → Rose second
 Rose-after first second third grows (inl up) = inl (omega arith)
 Rose-after first second third grows (inr stands) =
     elim (cases_lt first third) [ inl up ↦ inl up | inr past ↦ inr ((let a = stands.0 in let b = stands.1 in omega arith), stands.1) ]
+
+-- a count that stays 0 didn't rise
+pub Rose-never : Rose 0 0 → ⊥
+Rose-never (inl up) = omega arith
+Rose-never (inr stands) = let a = stands.0 in omega arith
+
+-- no bytes are a front part of any
+pub AppendsFront-nothing : (bytes : List ℕ) (written : Option (List ℕ)) → AppendsFront bytes written written
+AppendsFront-nothing bytes written = (0, omega arith, Appends-nothing written)
+
+-- all bytes are a front part of themselves
+pub AppendsFront-all : (bytes : List ℕ) (before after : Option (List ℕ)) → Appends bytes before after → AppendsFront bytes before after
+AppendsFront-all bytes before after all =
+    (length bytes, omega arith, rw (take-length bytes) all)
+
+-- a front part of the first bytes is one of the first and the second
+pub AppendsFront-before : (xs ys : List ℕ) (before after : Option (List ℕ)) → AppendsFront xs before after → AppendsFront (xs ++ ys) before after
+AppendsFront-before xs ys before after (n, within, front) =
+    (n, rw (length-append xs ys) (omega arith), rw (take-append-le n xs ys within) front)
+
+-- all of the first bytes and a front part of the second are a front part of both
+pub AppendsFront-after : (xs ys : List ℕ) (first second third : Option (List ℕ)) →
+    Appends xs first second → AppendsFront ys second third → AppendsFront (xs ++ ys) first third
+AppendsFront-after xs ys first second third x (n, within, front) =
+    (
+        length xs + n,
+        rw (length-append xs ys) (omega arith),
+        rw (take-append-add xs ys n) (Appends-join xs (take n ys) first second third x front)
+    )
