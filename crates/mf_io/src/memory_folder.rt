@@ -43,8 +43,8 @@ impl MemoryFolder {
 }
 
 impl Folder for MemoryFolder {
-    ghost use Rattle.std.specs.Prelude.{◌≡◌, Err};
-    ghost use Rattle.mf_io.specs.Folder.{Loads, Answers, first_named};
+    ghost use Rattle.std.specs.Prelude.{◌≡◌, ◌<◌, Err};
+    ghost use Rattle.mf_io.specs.Folder.{Loads, Answers, first_named, read_faults};
     ghost use Rattle.mf_io.specs.MemoryFolder.{outcome_of};
 
     ghost held = { λ folder name. first_named folder.files name };
@@ -53,6 +53,7 @@ impl Folder for MemoryFolder {
 
     fn load(&mut self, alloc: Global, name: &str, most: usize) -> Result<Loaded, LoadFault>
         ensures answer { Loads (first_named self.old.files name.now) name.now most self.old.log self.new.log result }
+        ensures fault { result ≡ Err LoadFault.Failed → read_faults self.old.log < read_faults self.new.log }
         ensures kept { first_named self.new.files ≡ first_named self.old.files }
         ensures memory { result ≡ Err LoadFault.Memory → self.new ≡ self.old }
         ensures exact { Answers (outcome_of self.old name.now most) result }
