@@ -2,8 +2,10 @@ use super::folder::{copy_of, find_file, note};
 use super::{Folder, List, LoadFault, Loaded, Loading, Text};
 use std::alloc::Global;
 
-/// A folder in memory, some of whose loads fail: those with the listed numbers, counted from 1 over all loads
-/// in its log, and those of a name that it doesn't hold. Of several files with one name it holds the first.
+/// A folder in memory, some of whose loads fail: those with the listed numbers, and those of a name that it
+/// doesn't hold. Of several files with one name it holds the first.
+///
+/// The loads in its log are numbered from 1; at the greatest `u64` the numbers stand still.
 #[derive(Debug, Drop)]
 pub struct MemoryFolder {
     files: List<(Text, Text)>,

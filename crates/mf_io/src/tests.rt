@@ -40,6 +40,10 @@ fn texts_and_lists_grow(rt: HostRuntime) -> Result<(), Fail> {
     list.reserve_one()?;
     list.push(text)?;
     assert_eq!(rt; list.len(), 1);
+    let mut same = List::from_vec(Vec::new(alloc));
+    same.push(Text::from_vec(Vec::from_slice(alloc, b"planner")?))?;
+    assert_eq!(rt; list, same);
+    assert_eq!(rt; same.into_vec().len(), 1);
     Ok(())
 }
 
