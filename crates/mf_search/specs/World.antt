@@ -1,5 +1,5 @@
 -- A legal history, and the world that it makes: what is opened, taken and in expansion after its entries.
-use Rattle.std.specs.Prelude.{◌≡◌, ℕ, ◌<◌, ◌≤◌, ◌⊎◌, ◌++◌, ◌||◌, Bool, true, false, cond, eqb, List, [], ◌∷◌, Option, Some, None, Contains, length, get_or}
+use Rattle.std.specs.Prelude.{◌≡◌, ◌≢◌, ℕ, ◌<◌, ◌≤◌, ◌⊎◌, ◌++◌, ◌||◌, Bool, true, false, cond, eqb, List, [], ◌∷◌, Option, Some, None, Contains, AllPairs, length, get_or, map}
 use Rattle.mf_search.specs.declared.entry.Entry.{Entry}
 use Rattle.mf_search.specs.declared.entry.Entry.TheVariants.{Take, Done, Wide}
 use Rattle.mf_search.specs.declared.maker.Maker.{Maker}
@@ -26,6 +26,10 @@ pub record World (S : Type 0) : Type 0 where
   pub busy : ℕ → Option ℕ
   pub ending : Ending
 
+-- The states that were opened, in the order of their numbers.
+abbrev pub opened_states : {S : Type 0} → World S → List S
+opened_states w = map (λ o. o.state) w.opened
+
 -- The opened state of number i. (Past the end: the start, as a goal. No legal entry names it.)
 abbrev pub at : {S : Type 0} → Space S → List (Opened S) → ℕ → Opened S
 at sp os i = get_or os i (record { state = sp.start; value = 0; maker = Start })
@@ -34,6 +38,14 @@ at sp os i = get_or os i (record { state = sp.start; value = 0; maker = Start })
 abbrev pub known : {S : Type 0} → Space S → List (Opened S) → S → Bool
 known sp [] x = false
 known sp (o ∷ os) x = sp.same o.state x || known sp os x
+
+-- No element stands in the list twice.
+abbrev pub AllDifferent : {X : Type 0} → List X → Type 0
+AllDifferent xs = AllPairs (λ x y. x ≢ y) xs
+
+-- The state has a number.
+abbrev pub WasOpened : {S : Type 0} → Space S → List (Opened S) → S → Type 0
+WasOpened sp os x = (k : ℕ) × (k < length os) × ((at sp os k).state ≡ x)
 
 -- The start is opened first, where its value is finite.
 abbrev pub opened_first : {S : Type 0} → Space S → Option ℕ → List (Opened S)

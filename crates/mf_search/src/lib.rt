@@ -3,9 +3,11 @@
 #![tactic(auto)]
 
 mod entry;
+mod laws;
 mod maker;
 mod status;
 
 pub use entry::Entry;
+pub use laws::taken_once;
 pub use maker::Maker;
 pub use status::Status;
