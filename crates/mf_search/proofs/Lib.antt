@@ -4,3 +4,5 @@ pub mod Sound
 pub mod Candidates
 pub mod Runs
 pub mod Rebuilding
+pub mod Completing
+pub mod Taking
