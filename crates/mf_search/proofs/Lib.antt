@@ -6,3 +6,5 @@ pub mod Runs
 pub mod Rebuilding
 pub mod Completing
 pub mod Taking
+pub mod Steps
+pub mod Answering

@@ -15,6 +15,7 @@ use Rattle.mf_search.proofs.Opening.{MadeBy}
 use Rattle.mf_search.proofs.Sound.{IsDone, IsStart, MadeByDone, Sound, Grows, next_grows, next_sound, begin_sound, after_grows, legal_sound}
 use Rattle.mf_search.proofs.Candidates.{free, free_le}
 use Rattle.mf_search.proofs.Runs.{greedy_nil, greedy_push}
+use Rattle.mf_search.proofs.Steps.{took_taken}
 use Rattle.mf_search.proofs.Rebuilding.{Within, within_itself, within_grows, AllDone, all_expanded}
 use Rattle.mf_search.proofs.Completing.{IsRun, IsFull, IsChildIn, Moment, push_run, completing, taken_follows}
 
@@ -59,10 +60,6 @@ take_has_run {S} sp budget workers w worker i os now all (suc fuel) low = go (no
       (completes sp budget workers w worker i os now (run_before sp os fuel made.parent ++ made.parent ∷ [])
         (push_run sp w os (run_before sp os fuel made.parent) made.parent now.sound now.within before.is_run made.done before.follows)
         (inr (record { parent = made.parent; in_run = Contains-push (run_before sp os fuel made.parent) made.parent; leads = leads })))
-
-took_taken : {S : Type 0} (b : Bool) (w : World S) (worker i : ℕ) → (took b w worker i).taken ≡ w.taken ++ i ∷ []
-took_taken true w worker i = refl
-took_taken false w worker i = refl
 
 next_have_runs : {S : Type 0} (sp : Space S) (budget workers : ℕ) (w : World S) (e : Entry) (os : List (Opened S)) → Sound sp w → May sp budget workers w e → Within sp w os → AllHaveRuns sp w os → AllHaveRuns sp (next sp w e) os
 next_have_runs {S} sp budget workers w (Take worker i) os s may within all k h =
