@@ -8,3 +8,4 @@ pub mod Completing
 pub mod Taking
 pub mod Steps
 pub mod Answering
+pub mod OneWorker

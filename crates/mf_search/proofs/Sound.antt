@@ -58,24 +58,24 @@ pub grows_trans : {S : Type 0} (sp : Space S) (w z y : World S) → Grows sp w z
 grows_trans sp w z y a b = record { extends = extends_trans sp w.opened z.opened y.opened a.extends b.extends; taken = λ i h. b.taken i (a.taken i h); done = λ i h. b.done i (a.done i h) }
 
 -- What each worker has in expansion after one entry of it.
-put_some : (busy : ℕ → Option ℕ) (worker j v i : ℕ) → put busy worker (Some j) v ≡ Some i → ((v ≡ worker) × (i ≡ j)) ⊎ ((v ≡ worker → ⊥) × (busy v ≡ Some i))
+pub put_some : (busy : ℕ → Option ℕ) (worker j v i : ℕ) → put busy worker (Some j) v ≡ Some i → ((v ≡ worker) × (i ≡ j)) ⊎ ((v ≡ worker → ⊥) × (busy v ≡ Some i))
 put_some busy worker j v i e = go (eqb v worker) refl e
   where
     go : (b : Bool) → eqb v worker ≡ b → cond b (Some j) (busy v) ≡ Some i → ((v ≡ worker) × (i ≡ j)) ⊎ ((v ≡ worker → ⊥) × (busy v ≡ Some i))
     go true t h = inl (eqb-true v worker t, sym (same_Some j i h))
     go false t h = inr (eqb-false v worker t, h)
 
-put_none : (busy : ℕ → Option ℕ) (worker v i : ℕ) → put busy worker None v ≡ Some i → (v ≡ worker → ⊥) × (busy v ≡ Some i)
+pub put_none : (busy : ℕ → Option ℕ) (worker v i : ℕ) → put busy worker None v ≡ Some i → (v ≡ worker → ⊥) × (busy v ≡ Some i)
 put_none busy worker v i e = go (eqb v worker) refl e
   where
     go : (b : Bool) → eqb v worker ≡ b → cond b None (busy v) ≡ Some i → (v ≡ worker → ⊥) × (busy v ≡ Some i)
     go true t h = absurd (no_some i h)
     go false t h = (eqb-false v worker t, h)
 
-put_same : (busy : ℕ → Option ℕ) (worker : ℕ) (held : Option ℕ) → put busy worker held worker ≡ held
+pub put_same : (busy : ℕ → Option ℕ) (worker : ℕ) (held : Option ℕ) → put busy worker held worker ≡ held
 put_same busy worker held = rw (eq-eqb worker worker refl) refl
 
-put_other : (busy : ℕ → Option ℕ) (worker : ℕ) (held : Option ℕ) (v : ℕ) → (v ≡ worker → ⊥) → put busy worker held v ≡ busy v
+pub put_other : (busy : ℕ → Option ℕ) (worker : ℕ) (held : Option ℕ) (v : ℕ) → (v ≡ worker → ⊥) → put busy worker held v ≡ busy v
 put_other busy worker held v other = rw (ne_eqb v worker other) refl
 
 -- How a state was made is kept as the world grows.
