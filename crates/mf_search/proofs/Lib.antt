@@ -9,3 +9,4 @@ pub mod Taking
 pub mod Steps
 pub mod Answering
 pub mod OneWorker
+pub mod Fuel
