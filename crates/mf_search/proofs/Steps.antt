@@ -1,5 +1,6 @@
 -- Histories and worlds one entry at a time, and opened states one child at a time.
 use Rattle.std.proofs.Common.{◌≡◌, ◌≢◌, ◌↔◌, ℕ, zero, suc, ◌<◌, ◌≤◌, ◌++◌, Bool, true, false, eqb, List, [], ◌∷◌, Option, Some, None, Contains, length, take, drop, refl, sym, ap, ◌∙◌, subst, arith, append_assoc, append-nil, take-append-drop}
+use Rattle.std.proofs.lemmas.List.{length_push}
 use Rattle.std.proofs.lemmas.Bool.{eq-eqb, ne_eqb, false_from_ne_true}
 use Rattle.mf_search.specs.declared.entry.Entry.{Entry}
 use Rattle.mf_search.specs.declared.entry.Entry.TheVariants.{Take, Done, Wide}
@@ -86,3 +87,16 @@ may_more sp budget few more w (Wide worker i n) h may = may
 pub legal_more : {S : Type 0} (sp : Space S) (budget few more : ℕ) (w : World S) (entries : List Entry) → few ≤ more → LegalFrom sp budget few w entries → LegalFrom sp budget more w entries
 legal_more sp budget few more w [] h legal = tt
 legal_more sp budget few more w (e ∷ entries) h legal = (may_more sp budget few more w e h legal.0, legal_more sp budget few more (next sp w e) entries h legal.1)
+
+-- As many states are taken as the budget allows, at most.
+took_fits : {S : Type 0} (sp : Space S) (budget workers : ℕ) (w : World S) (e : Entry) → May sp budget workers w e → length w.taken ≤ budget → length (next sp w e).taken ≤ budget
+took_fits {S} sp budget workers w (Take worker i) may h = rw (took_taken (eqb (at sp w.opened i).value 0) w worker i) (let a = may.in_budget in let b = length_push w.taken i in omega arith)
+took_fits sp budget workers w (Done worker i) may h = h
+took_fits sp budget workers w (Wide worker i n) may h = h
+
+after_fits : {S : Type 0} (sp : Space S) (budget workers : ℕ) (w : World S) (entries : List Entry) → LegalFrom sp budget workers w entries → length w.taken ≤ budget → length (after sp w entries).taken ≤ budget
+after_fits sp budget workers w [] legal h = h
+after_fits sp budget workers w (e ∷ entries) legal h = after_fits sp budget workers (next sp w e) entries legal.1 (took_fits sp budget workers w e legal.0 h)
+
+pub legal_in_budget : {S : Type 0} (sp : Space S) (budget workers : ℕ) (entries : List Entry) → Legal sp budget workers entries → length (world sp entries).taken ≤ budget
+legal_in_budget sp budget workers entries legal = after_fits sp budget workers (begin sp) entries legal (omega arith)

@@ -5,9 +5,13 @@
 mod entry;
 mod laws;
 mod maker;
+mod numbers;
 mod status;
 
 pub use entry::Entry;
-pub use laws::taken_once;
+pub use laws::{
+    answers_are_right, more_workers, one_entry_more, one_worker, taken_by_a_greedy_run, taken_once,
+};
 pub use maker::Maker;
+pub use numbers::{numbers_are_sound, one_child_more, one_parent_more, one_take_more};
 pub use status::Status;
