@@ -10,3 +10,4 @@ pub mod Steps
 pub mod Answering
 pub mod OneWorker
 pub mod Fuel
+mod Example
