@@ -3,10 +3,11 @@ pub mod Opening
 pub mod Sound
 pub mod Candidates
 pub mod Runs
+pub mod KeyOrder
 pub mod Rebuilding
 pub mod Completing
 pub mod Taking
-pub mod Steps
+pub mod OneStep
 pub mod Answering
 pub mod OneWorker
 pub mod Fuel

@@ -14,9 +14,10 @@ use Rattle.mf_search.proofs.Members.{no_some}
 use Rattle.mf_search.proofs.Opening.{MadeBy}
 use Rattle.mf_search.proofs.Sound.{IsDone, IsStart, MadeByDone, Sound, put_some, put_none, next_grows, next_sound, begin_sound, after_grows, legal_sound}
 use Rattle.mf_search.proofs.Runs.{greedy_nil, greedy_push}
-use Rattle.mf_search.proofs.Rebuilding.{Within, within_itself, within_grows, AllDone, all_expanded, state_in, number_in, IsFound, found, key_value}
+use Rattle.mf_search.proofs.Rebuilding.{Within, within_itself, within_grows, AllDone, all_expanded, state_in, number_in, IsFound, found}
+use Rattle.mf_search.proofs.KeyOrder.{key_value, key_antisym}
 use Rattle.mf_search.proofs.Completing.{Moment}
-use Rattle.mf_search.proofs.Steps.{took_taken, taken_is}
+use Rattle.mf_search.proofs.OneStep.{took_taken, taken_is}
 use Rattle.mf_search.proofs.Answering.{ended_stops}
 
 -- Only the workers from 1 to this number have a state in expansion.
@@ -52,9 +53,6 @@ lone_idle {S} sp budget w worker i all may v k h =
     let r = all v k h in let a = may.low in let b = may.high in
     let same : worker ≡ v = omega arith in
     no_some k (sym may.idle ∙ ap w.busy same ∙ h)
-
-pub key_antisym : {S : Type 0} (a : Opened S) (i : ℕ) (b : Opened S) (j : ℕ) → KeyAtMost a i b j → KeyAtMost b j a i → i ≡ j
-key_antisym a i b j h k = grind arith
 
 not_both : {S : Type 0} (g : Grown S) (n : ℕ) → IsListed g → g ≡ LeadsOut n → ⊥
 not_both {S} g n h e = subst (IsListed {S = S}) e h

@@ -15,6 +15,7 @@ use Rattle.mf_search.specs.Rebuilt.{best_below, appended, completed, parent_of, 
 use Rattle.mf_search.proofs.Members.{not_in_nil, in_map, from_map, no_some}
 use Rattle.mf_search.proofs.Opening.{Extends, extends_refl, extends_trans, Apart, Valued, MadeBy}
 use Rattle.mf_search.proofs.Sound.{IsDone, IsStart, MadeByDone, Sound, Grows, next_grows, next_sound, begin_sound, after_grows, after_sound, legal_sound}
+use Rattle.mf_search.proofs.KeyOrder.{key_value}
 use Rattle.mf_search.proofs.Candidates.{in_or_out, IsReached, IsCandidate, IsBest, BestIs, best_is, free, free_le, free_pos, free_less, completed_stays}
 use Rattle.mf_search.proofs.Runs.{greedy_nil, greedy_push, starts}
 
@@ -94,10 +95,6 @@ found {S} sp w os run y u s within done open_after = named (known open_after.rea
         value_is = same_Some (at sp os k.0).value u (sym (within.valued k.0 low) ∙ ap sp.value here ∙ open_after.valued);
         outside = λ h. open_after.fresh (subst (λ t. Contains (states_of sp os run) t) here (state_in sp os run k.0 h));
       }
-
--- The key of the first is at most that of the second, so its value is.
-pub key_value : {S : Type 0} (a : Opened S) (i : ℕ) (b : Opened S) (j : ℕ) → KeyAtMost a i b j → a.value ≤ b.value
-key_value a i b j h = grind arith
 
 -- Where a state may be taken, each opened state of less value is done.
 pub done_below : {S : Type 0} (sp : Space S) (budget workers : ℕ) (w : World S) (worker i c : ℕ) → Sound sp w → MayTake sp budget workers w worker i → c < length w.opened → (at sp w.opened c).value < (at sp w.opened i).value → IsDone sp w c

@@ -15,7 +15,7 @@ use Rattle.mf_search.proofs.Opening.{MadeBy}
 use Rattle.mf_search.proofs.Sound.{IsDone, IsStart, MadeByDone, Sound, Grows, next_grows, next_sound, begin_sound, after_grows, legal_sound}
 use Rattle.mf_search.proofs.Candidates.{free, free_le}
 use Rattle.mf_search.proofs.Runs.{greedy_nil, greedy_push}
-use Rattle.mf_search.proofs.Steps.{took_taken}
+use Rattle.mf_search.proofs.OneStep.{took_taken}
 use Rattle.mf_search.proofs.Rebuilding.{Within, within_itself, within_grows, AllDone, all_expanded}
 use Rattle.mf_search.proofs.Completing.{IsRun, IsFull, IsChildIn, Moment, push_run, completing, taken_follows}
 

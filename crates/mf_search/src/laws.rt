@@ -1,8 +1,8 @@
 //! The laws of the search: what holds of every legal history, over any space of states `S`.
-ghost use Rattle.std.specs.Prelude.{◌≡◌, ◌≤◌, ◌↔◌, ℕ, List, [], ◌∷◌, ◌++◌, Contains};
+ghost use Rattle.std.specs.Prelude.{◌≡◌, ◌≤◌, ℕ, List, Contains};
 ghost use Rattle.mf_search.specs.declared.status.Status.TheVariants.{Plan, NoPlan};
 ghost use Rattle.mf_search.specs.Space.{Space};
-ghost use Rattle.mf_search.specs.World.{World, AllDifferent, at, opened_states, May, next, Legal, world, takes};
+ghost use Rattle.mf_search.specs.World.{World, AllDifferent, at, opened_states, Legal, world, takes};
 ghost use Rattle.mf_search.specs.Greedy.{Greedy, IsGreedyRunTo};
 ghost use Rattle.mf_search.specs.Rebuilt.{states_of, rebuilt_run};
 ghost use Rattle.mf_search.specs.Answers.{Answers, Ended, IsPlanFrom, LeadsToGoal, InfiniteIsDead, IsClosed, plan_to};
@@ -46,15 +46,5 @@ pub fn one_worker<S>()
 /// A history that is legal for few workers is legal for more.
 pub fn more_workers<S>()
     ensures { (sp : Space S) (budget few more : ℕ) (entries : List Entry) → few ≤ more → Legal sp budget few entries → Legal sp budget more entries }
-{
-}
-
-/// A history that is one entry longer is legal exactly where it was legal and the entry may come after it,
-/// and its world is the next one. A front of a legal history is legal. After an ended one no entry may come.
-pub fn one_entry_more<S>()
-    ensures legal { (sp : Space S) (budget workers : ℕ) (entries : List Entry) (entry : Entry) → Legal sp budget workers (entries ++ entry ∷ []) ↔ (Legal sp budget workers entries × May sp budget workers (world sp entries) entry) }
-    ensures world { (sp : Space S) (entries : List Entry) (entry : Entry) → world sp (entries ++ entry ∷ []) ≡ next sp (world sp entries) entry }
-    ensures front { (sp : Space S) (budget workers : ℕ) (front rest : List Entry) → Legal sp budget workers (front ++ rest) → Legal sp budget workers front }
-    ensures ended { (sp : Space S) (budget workers : ℕ) (w : World S) (entry : Entry) → Ended budget w → May sp budget workers w entry → ⊥ }
 {
 }

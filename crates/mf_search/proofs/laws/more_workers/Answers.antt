@@ -1,5 +1,5 @@
 use Rattle.mf_search.specs.World.{begin}
-use Rattle.mf_search.proofs.Steps.{legal_more}
+use Rattle.mf_search.proofs.OneStep.{legal_more}
 use Rattle.mf_search.proofs.laws.more_workers.Goals as goal
 
 pub returns : goal.returns

@@ -1,7 +1,7 @@
 use Rattle.std.proofs.Common.{subst}
 use Rattle.mf_search.specs.World.{AllDifferent, world}
 use Rattle.mf_search.proofs.Sound.{legal_sound, apart_states}
-use Rattle.mf_search.proofs.Steps.{taken_is}
+use Rattle.mf_search.proofs.OneStep.{taken_is}
 use Rattle.mf_search.proofs.laws.taken_once.Goals as goal
 
 pub returns-clause-taken : goal.returns-clause-taken

@@ -2,7 +2,7 @@ use Rattle.std.proofs.Common.{ℕ, List, Contains, ◌≤◌, length, ap, sym, s
 use Rattle.mf_search.specs.World.{world}
 use Rattle.mf_search.specs.Rebuilt.{parent_of}
 use Rattle.mf_search.proofs.Sound.{legal_sound}
-use Rattle.mf_search.proofs.Steps.{taken_is, legal_in_budget}
+use Rattle.mf_search.proofs.OneStep.{taken_is, legal_in_budget}
 use Rattle.mf_search.proofs.OneWorker.{legal_in_number}
 use Rattle.mf_search.proofs.Fuel.{legal_parents}
 use Rattle.mf_search.proofs.numbers.numbers_are_sound.Goals as goal

@@ -1,6 +1,6 @@
 use Rattle.mf_search.proofs.Sound.{put_same, put_other}
-use Rattle.mf_search.proofs.Steps.{next_goal, next_take}
-use Rattle.mf_search.proofs.numbers.one_take_more.Goals as goal
+use Rattle.mf_search.proofs.OneStep.{next_goal, next_take}
+use Rattle.mf_search.proofs.steps.one_take_more.Goals as goal
 
 pub returns-clause-goal : goal.returns-clause-goal
 returns-clause-goal g c sp w worker i e = next_goal sp w worker i e

@@ -1,6 +1,6 @@
 use Rattle.mf_search.specs.World.{world}
 use Rattle.mf_search.proofs.Fuel.{rebuilt_step, rebuilt_start, completed_step, completed_none, plan_step, plan_start, legal_parents}
-use Rattle.mf_search.proofs.numbers.one_parent_more.Goals as goal
+use Rattle.mf_search.proofs.steps.one_parent_more.Goals as goal
 
 pub returns-clause-run : goal.returns-clause-run
 returns-clause-run g c sp budget workers entries i p n helpful legal h e = rebuilt_step sp (world sp entries).opened i p n helpful (legal_parents sp budget workers entries legal) h e

@@ -1,5 +1,5 @@
-use Rattle.mf_search.proofs.Steps.{open_more, child_known, child_infinite, child_new}
-use Rattle.mf_search.proofs.numbers.one_child_more.Goals as goal
+use Rattle.mf_search.proofs.OneStep.{open_more, child_known, child_infinite, child_new}
+use Rattle.mf_search.proofs.steps.one_child_more.Goals as goal
 
 pub returns-clause-child : goal.returns-clause-child
 returns-clause-child g c sp p cs d os = open_more sp p cs d os

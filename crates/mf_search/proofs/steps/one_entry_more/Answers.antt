@@ -1,6 +1,6 @@
-use Rattle.mf_search.proofs.Steps.{legal_push, legal_last, legal_front, world_push}
+use Rattle.mf_search.proofs.OneStep.{legal_push, legal_last, legal_front, world_push}
 use Rattle.mf_search.proofs.Answering.{ended_stops}
-use Rattle.mf_search.proofs.laws.one_entry_more.Goals as goal
+use Rattle.mf_search.proofs.steps.one_entry_more.Goals as goal
 
 pub returns-clause-legal : goal.returns-clause-legal
 returns-clause-legal g c sp budget workers entries entry = (λ h. legal_last sp budget workers entries entry h, λ h. legal_push sp budget workers entries entry h.0 h.1)
