@@ -1,18 +1,16 @@
 -- What the answers of legal histories say: a plan leads to a goal, and no plan means that nothing does.
-use Rattle.std.proofs.Common.{◌≡◌, ℕ, zero, suc, ◌<◌, ◌≤◌, ◌⊎◌, ◌++◌, List, [], ◌∷◌, Option, Some, None, Contains, length, refl, sym, ap, ◌∙◌, inl, inr, ⊎_elim, subst, arith}
+use Rattle.std.proofs.Common.{◌≡◌, ℕ, zero, suc, ◌<◌, ◌⊎◌, ◌++◌, List, [], ◌∷◌, Option, Some, None, Contains, length, refl, sym, ap, ◌∙◌, inl, inr, subst, arith}
 use Rattle.mf_search.specs.declared.entry.Entry.{Entry}
-use Rattle.mf_search.specs.declared.maker.Maker.{Maker}
-use Rattle.mf_search.specs.declared.maker.Maker.TheVariants.{Start, Step}
 use Rattle.mf_search.specs.declared.status.Status.{Status}
 use Rattle.mf_search.specs.declared.status.Status.TheVariants.{Running, Plan, NoPlan, Budget, Width, Halted}
-use Rattle.mf_search.specs.Space.{Child, Space, children_of, Leads}
-use Rattle.mf_search.specs.World.{Opened, Going, AtGoal, AtWide, World, WasOpened, at, IsOpen, MayTake, May, Legal, world}
+use Rattle.mf_search.specs.Space.{Child, Space, children_of}
+use Rattle.mf_search.specs.World.{Opened, Going, World, WasOpened, at, MayTake, May, Legal, world}
 use Rattle.mf_search.specs.declared.entry.Entry.TheVariants.{Take, Done, Wide}
 use Rattle.mf_search.specs.Greedy.{Expanded}
 use Rattle.mf_search.specs.Answers.{AllIdle, Answers, Ended, Walk, IsPlanFrom, LeadsToGoal, InfiniteIsDead, IsClosed, with_step, trace, plan_to}
 use Rattle.mf_search.proofs.Members.{no_some}
 use Rattle.mf_search.proofs.Sound.{IsDone, IsStart, MadeByDone, Sound, legal_sound}
-use Rattle.mf_search.proofs.Rebuilding.{Within, within_itself, done_expanded}
+use Rattle.mf_search.proofs.Rebuilding.{within_itself, done_expanded}
 
 walk_push : {S : Type 0} (sp : Space S) (x : S) (instances : List ℕ) (y : S) (c : Child S) → Walk sp x instances y → Contains (children_of (sp.grow y)) c → Walk sp x (instances ++ c.instance ∷ []) c.state
 walk_push {S} sp x [] y c e h = (c, subst (λ z. Contains (children_of (sp.grow z)) c) (sym e) h, refl, refl)
@@ -26,8 +24,8 @@ trace_walks {S} sp w (suc fuel) i s low h = go (s.made i h) (λ p below inside. 
     go : IsStart sp w.opened i ⊎ MadeByDone sp w i → ((p : ℕ) → p < fuel → p < length w.opened → Walk sp sp.start (trace sp w.opened fuel p) (at sp w.opened p).state) → Walk sp sp.start (with_step (trace sp w.opened fuel) (at sp w.opened i).maker) (at sp w.opened i).state
     go (inl start) ih = rw start.maker_is (sym start.state_is)
     go (inr made) ih =
-      let a = made.lower in
-      rw (made.entry.maker_is, ← made.entry.state_is) (walk_push sp sp.start (trace sp w.opened fuel made.parent) (at sp w.opened made.parent).state made.entry.child (ih made.parent (omega arith) (omega arith)) made.entry.stands)
+        let a = made.lower in
+        rw (made.entry.maker_is, ← made.entry.state_is) (walk_push sp sp.start (trace sp w.opened fuel made.parent) (at sp w.opened made.parent).state made.entry.child (ih made.parent (omega arith) (omega arith)) made.entry.stands)
 
 pub plan_is_right : {S : Type 0} (sp : Space S) (budget workers : ℕ) (entries : List Entry) (i : ℕ) → Legal sp budget workers entries → Answers budget (world sp entries) (Plan i) → IsPlanFrom sp sp.start (plan_to sp (world sp entries).opened i)
 plan_is_right {S} sp budget workers entries i legal e =
@@ -64,6 +62,7 @@ no_plan_is_right {S} sp budget workers entries legal answer dead plan = go (sp.v
   where
     closed : IsClosed sp (world sp entries).opened
     closed = no_plan_is_closed sp budget workers entries legal answer
+
     go : (v : Option ℕ) → sp.value sp.start ≡ v → ⊥
     go None e = dead sp.start e plan
     go (Some v) e = closed_walk sp (world sp entries).opened sp.start plan.0 plan.1.0 closed dead (closed.start v e) plan.1.1 plan.1.2
@@ -114,6 +113,7 @@ ended_stops {S} sp budget workers w e ended may = go ended.0 ended.1
   where
     going : w.ending ≡ Going
     going = may_going sp budget workers w e may
+
     go : (a : Status) → Answers budget w a → ⊥
     go (Plan i) h = let g = going in absurd (cc)
     go (Width i n) h = let g = going in absurd (cc)

@@ -1,15 +1,16 @@
 -- A small fork, computed: two ways to a goal, of which a run of one thread goes the other one first.
 --     s -> q -> r -> goal by r        s -> p -> t -> u -> goal by u
 -- A state's value is how many goal atoms it lacks: 3 at s, q and p, 2 at t, 1 at r and u.
-use Rattle.std.proofs.Common.{◌≡◌, ◌↔◌, ℕ, get_or, ◌<◌, ◌≤◌, Bool, true, false, eqb, List, [], ◌∷◌, Option, Some, None, Contains, length, refl, sym, ap, ◌∙◌, arith}
+use Rattle.std.proofs.Common.{◌≡◌, ◌↔◌, ℕ, get_or, ◌≤◌, Bool, true, false, eqb, List, [], ◌∷◌, Option, Some, None, refl, sym, ap, ◌∙◌, arith}
 use Rattle.std.proofs.lemmas.Bool.{eqb-true, eq-eqb}
 use Rattle.mf_search.specs.declared.entry.Entry.{Entry}
-use Rattle.mf_search.specs.declared.entry.Entry.TheVariants.{Take, Done, Wide}
+use Rattle.mf_search.specs.declared.entry.Entry.TheVariants.{Take, Done}
 use Rattle.mf_search.specs.declared.maker.Maker.TheVariants.{Start, Step}
 use Rattle.mf_search.specs.Space.{Child, Grown, Listed, Space}
-use Rattle.mf_search.specs.World.{Opened, Going, AtGoal, World, May, MayTake, world}
+use Rattle.mf_search.specs.World.{Going, AtGoal, May, Legal, world}
 use Rattle.mf_search.specs.Rebuilt.{rebuilt, rebuilt_run}
 use Rattle.mf_search.specs.Answers.{plan_to}
+use Rattle.mf_search.proofs.Checking.{legal_from}
 
 data Place : Type 0 where
   S Q P T R U GoalR GoalU : Place
@@ -76,6 +77,10 @@ seven = Take 1 0 ∷ Done 1 0 ∷ Take 1 1 ∷ Take 2 2 ∷ Done 2 2 ∷ Take 2 
 abbrev ten : List Entry
 ten = Take 1 0 ∷ Done 1 0 ∷ Take 1 1 ∷ Take 2 2 ∷ Done 2 2 ∷ Take 2 3 ∷ Done 1 1 ∷ Take 1 4 ∷ Done 2 3 ∷ Take 2 5 ∷ []
 
+-- The ten entries are a legal history of two workers.
+ten_are_legal : Legal fork 100 2 ten
+ten_are_legal = legal_from fork 100 2 ten refl
+
 -- The world after seven entries.
 opened_then : (world fork seven).opened ≡ record { state = S; value = 3; maker = Start } ∷ record { state = Q; value = 3; maker = Step 0 0 false } ∷ record { state = P; value = 3; maker = Step 0 1 false } ∷ record { state = T; value = 2; maker = Step 2 3 false } ∷ record { state = R; value = 1; maker = Step 1 2 false } ∷ []
 opened_then = refl
@@ -102,9 +107,25 @@ states_of_last = refl
 trace_of_last : plan_to fork (world fork ten).opened 5 ≡ 1 ∷ 3 ∷ 4 ∷ []
 trace_of_last = refl
 
--- A state of value 2 may not be taken while one of value 1 is in expansion, though it is the only open one.
 abbrev other_seven : List Entry
 other_seven = Take 1 0 ∷ Done 1 0 ∷ Take 1 1 ∷ Take 2 2 ∷ Done 1 1 ∷ Take 1 3 ∷ Done 2 2 ∷ []
 
+other_seven_are_legal : Legal fork 100 2 other_seven
+other_seven_are_legal = legal_from fork 100 2 other_seven refl
+
+-- A state of value 2 may not be taken while one of value 1 is in expansion, though it is the only open one.
 not_yet : May fork 100 2 (world fork other_seven) (Take 2 4) → ⊥
 not_yet may = let above : 2 ≤ 1 = may.permit 1 3 refl in omega arith
+
+-- One worker goes by r, and ends at the goal there.
+abbrev alone : List Entry
+alone = Take 1 0 ∷ Done 1 0 ∷ Take 1 1 ∷ Done 1 1 ∷ Take 1 3 ∷ Done 1 3 ∷ Take 1 4 ∷ []
+
+alone_is_legal : Legal fork 100 1 alone
+alone_is_legal = legal_from fork 100 1 alone refl
+
+alone_ends : (world fork alone).ending ≡ AtGoal 4
+alone_ends = refl
+
+plan_of_alone : plan_to fork (world fork alone).opened 4 ≡ 0 ∷ 2 ∷ 5 ∷ []
+plan_of_alone = refl

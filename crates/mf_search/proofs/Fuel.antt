@@ -1,16 +1,16 @@
 -- The bounds of the recursions are enough: the rebuilt run and the trace by parents, and the completed run step by step.
-use Rattle.std.proofs.Common.{◌≡◌, ℕ, zero, suc, ◌<◌, ◌≤◌, ◌⊎◌, ◌++◌, ◌&&◌, Bool, true, false, cond, List, [], ◌∷◌, Option, Some, None, Contains, length, refl, sym, ap, ◌∙◌, inl, inr, ⊎_elim, subst, arith}
+use Rattle.std.proofs.Common.{◌≡◌, ℕ, zero, suc, ◌<◌, ◌≤◌, ◌⊎◌, ◌++◌, Bool, List, [], ◌∷◌, Option, Some, None, length, refl, sym, ap, ◌∙◌, inl, inr, arith}
 use Rattle.std.proofs.lemmas.Option.{same_Some}
 use Rattle.mf_search.specs.declared.entry.Entry.{Entry}
 use Rattle.mf_search.specs.declared.maker.Maker.{Maker}
 use Rattle.mf_search.specs.declared.maker.Maker.TheVariants.{Start, Step}
 use Rattle.mf_search.specs.Space.{Space}
 use Rattle.mf_search.specs.World.{Opened, World, at, Legal, world}
-use Rattle.mf_search.specs.Rebuilt.{candidate, better, best_below, appended, completed, parent_of, with_parent, run_before, rebuilt}
+use Rattle.mf_search.specs.Rebuilt.{best_below, appended, completed, parent_of, with_parent, run_before, rebuilt}
 use Rattle.mf_search.specs.Answers.{with_step, trace, plan_to}
 use Rattle.mf_search.proofs.Members.{not_in_nil, no_some}
 use Rattle.mf_search.proofs.Sound.{IsStart, MadeByDone, Sound, legal_sound}
-use Rattle.mf_search.proofs.Candidates.{IsCandidate, BestIs, best_is, IsBest, free, free_le, free_pos, free_less, completed_stays}
+use Rattle.mf_search.proofs.Candidates.{BestIs, best_is, free, free_le, free_pos, free_less, completed_stays}
 
 none_left : {S : Type 0} (sp : Space S) (os : List (Opened S)) (v : ℕ) (run : List ℕ) (best : Option ℕ) → best_below sp os run v (length os) ≡ best → BestIs sp os run v (length os) best → free run (length os) ≤ 0 → best_below sp os run v (length os) ≡ None
 none_left sp os v run None e h few = e
@@ -23,8 +23,8 @@ completed_enough {S} sp os v (suc f) zero run a b = completed_stays sp os v (suc
 completed_enough {S} sp os v (suc f) (suc g) run a b = go (best_below sp os run v (length os)) refl (best_is sp os run v (length os)) (λ more c d. completed_enough sp os v f g more c d)
   where
     go : (best : Option ℕ) → best_below sp os run v (length os) ≡ best → BestIs sp os run v (length os) best
-      → ((more : List ℕ) → free more (length os) ≤ f → free more (length os) ≤ g → completed sp os v f more ≡ completed sp os v g more)
-      → completed sp os v f (appended run best) ≡ completed sp os v g (appended run best)
+        → ((more : List ℕ) → free more (length os) ≤ f → free more (length os) ≤ g → completed sp os v f more ≡ completed sp os v g more)
+        → completed sp os v f (appended run best) ≡ completed sp os v g (appended run best)
     go None e h ih = completed_stays sp os v f run e ∙ sym (completed_stays sp os v g run e)
     go (Some c) e h ih = let less = free_less run c (length os) h.in_range h.is.outside in ih (run ++ c ∷ []) (omega arith) (omega arith)
 
@@ -80,14 +80,14 @@ rebuilt_step {S} sp os i p n h lower inside e =
     let l = lower i p inside (ap parent_of e) in
     ap (λ run. run ++ i ∷ [])
     (run_before_enough sp os (length os) (suc (length os)) i lower inside inside (omega arith)
-      ∙ ap (λ m. completed sp os (at sp os i).value (length os) (with_parent (run_before sp os (length os)) (parent_of m))) e)
+    ∙ ap (λ m. completed sp os (at sp os i).value (length os) (with_parent (run_before sp os (length os)) (parent_of m))) e)
 
 pub rebuilt_start : {S : Type 0} (sp : Space S) (os : List (Opened S)) (i : ℕ) → ParentsLower sp os → i < length os → (at sp os i).maker ≡ Start → rebuilt sp os i ≡ i ∷ []
 rebuilt_start {S} sp os i lower inside e =
     ap (λ run. run ++ i ∷ [])
     (run_before_enough sp os (length os) (suc (length os)) i lower inside inside (omega arith)
-      ∙ ap (λ m. completed sp os (at sp os i).value (length os) (with_parent (run_before sp os (length os)) (parent_of m))) e
-      ∙ completed_none sp os (at sp os i).value [] (nothing_first sp os (at sp os i).value (length os)))
+    ∙ ap (λ m. completed sp os (at sp os i).value (length os) (with_parent (run_before sp os (length os)) (parent_of m))) e
+    ∙ completed_none sp os (at sp os i).value [] (nothing_first sp os (at sp os i).value (length os)))
 
 -- The trace to a state is that of its parent and then the kept instance.
 pub plan_step : {S : Type 0} (sp : Space S) (os : List (Opened S)) (i p n : ℕ) (h : Bool) → ParentsLower sp os → i < length os → (at sp os i).maker ≡ Step p n h → plan_to sp os i ≡ plan_to sp os p ++ n ∷ []

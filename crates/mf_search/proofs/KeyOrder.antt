@@ -1,5 +1,5 @@
 -- The order of the keys of opened states.
-use Rattle.std.proofs.Common.{◌≡◌, ℕ, ◌<◌, ◌≤◌, ◌⊎◌, arith}
+use Rattle.std.proofs.Common.{◌≡◌, ℕ, ◌≤◌, ◌⊎◌, arith}
 use Rattle.mf_search.specs.World.{Opened, KeyAtMost}
 
 -- The key of the first is at most that of the second, so its value is.

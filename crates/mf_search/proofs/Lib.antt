@@ -11,4 +11,5 @@ pub mod OneStep
 pub mod Answering
 pub mod OneWorker
 pub mod Fuel
+pub mod Checking
 mod Example

@@ -1,12 +1,12 @@
 -- Histories and worlds one entry at a time, and opened states one child at a time.
-use Rattle.std.proofs.Common.{◌≡◌, ◌≢◌, ◌↔◌, ℕ, zero, suc, ◌<◌, ◌≤◌, ◌++◌, Bool, true, false, eqb, List, [], ◌∷◌, Option, Some, None, Contains, length, take, drop, refl, sym, ap, ◌∙◌, subst, arith, append_assoc, append-nil, take-append-drop}
+use Rattle.std.proofs.Common.{◌≡◌, ◌≢◌, ℕ, ◌≤◌, ◌++◌, Bool, true, false, eqb, List, [], ◌∷◌, Some, None, length, take, drop, refl, sym, ap, ◌∙◌, subst, arith, append_assoc, append-nil, take-append-drop}
 use Rattle.std.proofs.lemmas.List.{length_push}
 use Rattle.std.proofs.lemmas.Bool.{eq-eqb, ne_eqb, false_from_ne_true}
 use Rattle.mf_search.specs.declared.entry.Entry.{Entry}
 use Rattle.mf_search.specs.declared.entry.Entry.TheVariants.{Take, Done, Wide}
-use Rattle.mf_search.specs.declared.maker.Maker.TheVariants.{Start, Step}
-use Rattle.mf_search.specs.Space.{Child, Space, children_of}
-use Rattle.mf_search.specs.World.{Opened, Going, AtGoal, AtWide, World, WasOpened, at, known, pushed, open_child, open_all, put, took, finished, next, after, MayTake, MayDone, MayWide, May, LegalFrom, Legal, begin, world, takes}
+use Rattle.mf_search.specs.declared.maker.Maker.TheVariants.{Step}
+use Rattle.mf_search.specs.Space.{Child, Space}
+use Rattle.mf_search.specs.World.{Opened, AtGoal, World, WasOpened, at, known, pushed, open_child, open_all, put, took, next, after, May, LegalFrom, Legal, begin, world, takes}
 use Rattle.mf_search.proofs.Opening.{known_opened, opened_known}
 
 -- The world after one list of entries and then another.

@@ -1,18 +1,16 @@
 -- One worker: the taken states are themselves a greedy run, and the ended history is the only one.
-use Rattle.std.proofs.Common.{◌≡◌, ℕ, zero, suc, ◌+◌, ◌<◌, ◌≤◌, ◌⊎◌, ◌++◌, Bool, true, false, cond, eqb, List, [], ◌∷◌, Option, Some, None, Contains, length, refl, sym, ap, ap₂, ◌∙◌, inl, inr, ⊎_elim, subst, arith}
-use Rattle.std.proofs.lemmas.Bool.{eqb-true}
+use Rattle.std.proofs.Common.{◌≡◌, ℕ, ◌<◌, ◌≤◌, ◌⊎◌, Bool, true, false, eqb, List, [], ◌∷◌, Some, Contains, length, refl, sym, ap, ap₂, ◌∙◌, inl, inr, subst, arith}
 use Rattle.std.proofs.lemmas.Option.{same_Some}
 use Rattle.std.proofs.lemmas.List.{map_push}
 use Rattle.mf_search.specs.declared.entry.Entry.{Entry}
 use Rattle.mf_search.specs.declared.entry.Entry.TheVariants.{Take, Done, Wide}
-use Rattle.mf_search.specs.Space.{Child, Grown, Listed, LeadsOut, Space, children_of, IsListed, Leads}
-use Rattle.mf_search.specs.World.{Opened, World, at, begin, put, took, next, after, IsOpen, KeyAtMost, MayTake, MayDone, MayWide, May, LegalFrom, Legal, world, takes}
-use Rattle.mf_search.specs.Greedy.{OpenAfter, Follows, AllExpanded, Greedy}
+use Rattle.mf_search.specs.Space.{Grown, LeadsOut, Space, IsListed, Leads}
+use Rattle.mf_search.specs.World.{Opened, World, at, begin, took, next, after, MayTake, May, LegalFrom, Legal, world, takes}
+use Rattle.mf_search.specs.Greedy.{Follows, Greedy}
 use Rattle.mf_search.specs.Rebuilt.{states_of}
-use Rattle.mf_search.specs.Answers.{AllIdle, Ended}
+use Rattle.mf_search.specs.Answers.{Ended}
 use Rattle.mf_search.proofs.Members.{no_some}
-use Rattle.mf_search.proofs.Opening.{MadeBy}
-use Rattle.mf_search.proofs.Sound.{IsDone, IsStart, MadeByDone, Sound, put_some, put_none, next_grows, next_sound, begin_sound, after_grows, legal_sound}
+use Rattle.mf_search.proofs.Sound.{IsStart, MadeByDone, Sound, put_some, put_none, next_grows, next_sound, begin_sound, after_grows, legal_sound}
 use Rattle.mf_search.proofs.Runs.{greedy_nil, greedy_push}
 use Rattle.mf_search.proofs.Rebuilding.{Within, within_itself, within_grows, AllDone, all_expanded, state_in, number_in, IsFound, found}
 use Rattle.mf_search.proofs.KeyOrder.{key_value, key_antisym}
@@ -30,6 +28,7 @@ next_in_number {S} sp budget workers w (Take worker i) may all = go (eqb (at sp 
     held : (v k : ℕ) → ((v ≡ worker) × (k ≡ i)) ⊎ ((v ≡ worker → ⊥) × (w.busy v ≡ Some k)) → (1 ≤ v) × (v ≤ workers)
     held v k (inl e) = let a = may.low in let b = may.high in let c = e.0 in (omega arith, omega arith)
     held v k (inr e) = all v k e.1
+
     go : (b : Bool) → InNumber workers (took b w worker i)
     go true = all
     go false = λ v k h. held v k (put_some w.busy worker i v k h)
@@ -40,7 +39,7 @@ pub after_in_number : {S : Type 0} (sp : Space S) (budget workers : ℕ) (w : Wo
 after_in_number sp budget workers w [] legal all = all
 after_in_number sp budget workers w (e ∷ entries) legal all = after_in_number sp budget workers (next sp w e) entries legal.1 (next_in_number sp budget workers w e legal.0 all)
 
-begin_in_number : {S : Type 0} (sp : Space S) (workers : ℕ) → InNumber workers (begin sp)
+pub begin_in_number : {S : Type 0} (sp : Space S) (workers : ℕ) → InNumber workers (begin sp)
 begin_in_number sp workers v i h = absurd (no_some i h)
 
 -- In each legal history only the workers from 1 to its number have a state in expansion.
@@ -109,19 +108,22 @@ lone_follows {S} sp budget w worker i os now done = record {
   where
     same : at sp os i ≡ at sp w.opened i
     same = now.within.extends.same i now.may.is_open.0
+
     low : i < length os
     low = let a = now.may.is_open.0 in let b = now.within.extends.longer in omega arith
+
     reached : IsStart sp w.opened i ⊎ MadeByDone sp w i → ((at sp os i).state ≡ sp.start) ⊎ ((x : S) × Contains (states_of sp os w.taken) x × Leads sp x (at sp os i).state)
     reached (inl start) = inl (ap (λ (o : Opened S). o.state) same ∙ start.state_is)
     reached (inr made) =
-      let same_parent = now.within.extends.same made.parent (now.sound.in_range made.parent made.done.taken) in
-      let leads : Leads sp (at sp os made.parent).state (at sp os i).state = rw (same_parent, same) (made.entry.child, made.entry.stands, made.entry.state_is) in
-      inr ((at sp os made.parent).state, state_in sp os w.taken made.parent made.done.taken, leads)
+        let same_parent = now.within.extends.same made.parent (now.sound.in_range made.parent made.done.taken) in
+        let leads : Leads sp (at sp os made.parent).state (at sp os i).state = rw (same_parent, same) (made.entry.child, made.entry.stands, made.entry.state_is) in
+        inr ((at sp os made.parent).state, state_in sp os w.taken made.parent made.done.taken, leads)
+
     least : {y : S} (u : ℕ) → IsFound sp w os w.taken y u → (at sp os i).value ≤ u
     least u f =
-      let key = key_value (at sp w.opened i) i (at sp w.opened f.number) f.number (now.may.least f.number (f.opened, f.outside)) in
-      let here : (at sp os i).value ≤ (at sp os f.number).value = rw (same, now.within.extends.same f.number f.opened) key in
-      let e = f.value_is in omega arith
+        let key = key_value (at sp w.opened i) i (at sp w.opened f.number) f.number (now.may.least f.number (f.opened, f.outside)) in
+        let here : (at sp os i).value ≤ (at sp os f.number).value = rw (same, now.within.extends.same f.number f.opened) key in
+        let e = f.value_is in omega arith
 
 lone_greedy : {S : Type 0} (sp : Space S) (budget : ℕ) (w : World S) (e : Entry) (os : List (Opened S)) → Sound sp w → InNumber 1 w → May sp budget 1 w e → Within sp w os → Greedy sp (states_of sp os w.taken) → Greedy sp (states_of sp os (next sp w e).taken)
 lone_greedy {S} sp budget w (Take worker i) os s all may within greedy =

@@ -1,23 +1,21 @@
 -- Each take of a legal history has a rebuilt run that is greedy and ends with the taken state: by the entries in order.
-use Rattle.std.proofs.Common.{◌≡◌, ℕ, zero, suc, ◌<◌, ◌≤◌, ◌⊎◌, ◌++◌, Bool, true, false, eqb, List, [], ◌∷◌, Option, Some, None, Contains, length, refl, sym, ap, ◌∙◌, inl, inr, ⊎_elim, subst, arith}
+use Rattle.std.proofs.Common.{◌≡◌, ℕ, zero, suc, ◌<◌, ◌⊎◌, ◌++◌, eqb, List, [], ◌∷◌, Contains, length, refl, sym, ap, ◌∙◌, inl, inr, ⊎_elim, subst, arith}
 use Rattle.std.proofs.lemmas.List.{map_push}
-use Rattle.std.proofs.lemmas.List.Elements.{Contains-append_left, Contains-push, Contains-push_cases}
+use Rattle.std.proofs.lemmas.List.Elements.{Contains-push, Contains-push_cases}
 use Rattle.mf_search.specs.declared.entry.Entry.{Entry}
 use Rattle.mf_search.specs.declared.entry.Entry.TheVariants.{Take, Done, Wide}
-use Rattle.mf_search.specs.declared.maker.Maker.{Maker}
 use Rattle.mf_search.specs.declared.maker.Maker.TheVariants.{Start, Step}
-use Rattle.mf_search.specs.Space.{Child, Space, children_of, Leads}
-use Rattle.mf_search.specs.World.{Opened, World, at, begin, took, next, after, MayTake, May, LegalFrom, Legal, world}
-use Rattle.mf_search.specs.Greedy.{Follows, Greedy, IsGreedyRunTo}
+use Rattle.mf_search.specs.Space.{Space, Leads}
+use Rattle.mf_search.specs.World.{Opened, World, at, begin, next, after, May, LegalFrom, Legal, world}
+use Rattle.mf_search.specs.Greedy.{Follows, IsGreedyRunTo}
 use Rattle.mf_search.specs.Rebuilt.{completed, parent_of, with_parent, run_before, rebuilt, states_of}
 use Rattle.mf_search.proofs.Members.{not_in_nil}
-use Rattle.mf_search.proofs.Opening.{MadeBy}
-use Rattle.mf_search.proofs.Sound.{IsDone, IsStart, MadeByDone, Sound, Grows, next_grows, next_sound, begin_sound, after_grows, legal_sound}
-use Rattle.mf_search.proofs.Candidates.{free, free_le}
+use Rattle.mf_search.proofs.Sound.{IsStart, MadeByDone, Sound, Grows, next_grows, next_sound, begin_sound, after_grows, legal_sound}
+use Rattle.mf_search.proofs.Candidates.{free_le}
 use Rattle.mf_search.proofs.Runs.{greedy_nil, greedy_push}
 use Rattle.mf_search.proofs.OneStep.{took_taken}
-use Rattle.mf_search.proofs.Rebuilding.{Within, within_itself, within_grows, AllDone, all_expanded}
-use Rattle.mf_search.proofs.Completing.{IsRun, IsFull, IsChildIn, Moment, push_run, completing, taken_follows}
+use Rattle.mf_search.proofs.Rebuilding.{Within, within_itself, within_grows, all_expanded}
+use Rattle.mf_search.proofs.Completing.{IsRun, IsChildIn, Moment, push_run, completing, taken_follows}
 
 -- The run is a greedy run of done states, and the state of number i may follow it.
 pub record LeadsUpTo {S : Type 0} (sp : Space S) (w : World S) (os : List (Opened S)) (run : List ℕ) (i : ℕ) : Type 0 where
@@ -45,19 +43,20 @@ take_has_run {S} sp budget workers w worker i os now all (suc fuel) low = go (no
   where
     same : at sp os i ≡ at sp w.opened i
     same = now.within.extends.same i now.may.is_open.0
+
     go : IsStart sp w.opened i ⊎ MadeByDone sp w i → LeadsUpTo sp w os (completed sp os (at sp os i).value (length os) (with_parent (run_before sp os fuel) (parent_of (at sp os i).maker))) i
     go (inl start) =
-      let maker : (at sp os i).maker ≡ Start = ap (λ (o : Opened S). o.maker) same ∙ start.maker_is in
-      let state : (at sp os i).state ≡ sp.start = ap (λ (o : Opened S). o.state) same ∙ start.state_is in
-      subst (λ m. LeadsUpTo sp w os (completed sp os (at sp os i).value (length os) (with_parent (run_before sp os fuel) (parent_of m))) i) (sym maker)
-      (completes sp budget workers w worker i os now [] (record { done = λ k h. absurd (not_in_nil k h); greedy = greedy_nil sp }) (inl (record { maker_is = maker; state_is = state })))
+        let maker : (at sp os i).maker ≡ Start = ap (λ (o : Opened S). o.maker) same ∙ start.maker_is in
+        let state : (at sp os i).state ≡ sp.start = ap (λ (o : Opened S). o.state) same ∙ start.state_is in
+        subst (λ m. LeadsUpTo sp w os (completed sp os (at sp os i).value (length os) (with_parent (run_before sp os fuel) (parent_of m))) i) (sym maker)
+        (completes sp budget workers w worker i os now [] (record { done = λ k h. absurd (not_in_nil k h); greedy = greedy_nil sp }) (inl (record { maker_is = maker; state_is = state })))
     go (inr made) =
-      let maker : (at sp os i).maker ≡ Step made.parent made.entry.child.instance made.entry.child.helpful = ap (λ (o : Opened S). o.maker) same ∙ made.entry.maker_is in
-      let before = all made.parent made.done.taken fuel (let a = made.lower in omega arith) in
-      let same_parent = now.within.extends.same made.parent (now.sound.in_range made.parent made.done.taken) in
-      let leads : Leads sp (at sp os made.parent).state (at sp os i).state = rw (same_parent, same) (made.entry.child, made.entry.stands, made.entry.state_is) in
-      subst (λ m. LeadsUpTo sp w os (completed sp os (at sp os i).value (length os) (with_parent (run_before sp os fuel) (parent_of m))) i) (sym maker)
-      (completes sp budget workers w worker i os now (run_before sp os fuel made.parent ++ made.parent ∷ [])
+        let maker : (at sp os i).maker ≡ Step made.parent made.entry.child.instance made.entry.child.helpful = ap (λ (o : Opened S). o.maker) same ∙ made.entry.maker_is in
+        let before = all made.parent made.done.taken fuel (let a = made.lower in omega arith) in
+        let same_parent = now.within.extends.same made.parent (now.sound.in_range made.parent made.done.taken) in
+        let leads : Leads sp (at sp os made.parent).state (at sp os i).state = rw (same_parent, same) (made.entry.child, made.entry.stands, made.entry.state_is) in
+        subst (λ m. LeadsUpTo sp w os (completed sp os (at sp os i).value (length os) (with_parent (run_before sp os fuel) (parent_of m))) i) (sym maker)
+        (completes sp budget workers w worker i os now (run_before sp os fuel made.parent ++ made.parent ∷ [])
         (push_run sp w os (run_before sp os fuel made.parent) made.parent now.sound now.within before.is_run made.done before.follows)
         (inr (record { parent = made.parent; in_run = Contains-push (run_before sp os fuel made.parent) made.parent; leads = leads })))
 
@@ -65,7 +64,7 @@ next_have_runs : {S : Type 0} (sp : Space S) (budget workers : ℕ) (w : World S
 next_have_runs {S} sp budget workers w (Take worker i) os s may within all k h =
     run_stays sp w (next sp w (Take worker i)) os k (next_grows sp budget workers w (Take worker i) s may)
     (⊎_elim (all k) (λ (e : i ≡ k). subst (HasRun sp w os) e (take_has_run sp budget workers w worker i os (record { sound = s; within = within; may = may }) all))
-      (Contains-push_cases w.taken i k (subst (λ ts. Contains ts k) (took_taken (eqb (at sp w.opened i).value 0) w worker i) h)))
+    (Contains-push_cases w.taken i k (subst (λ ts. Contains ts k) (took_taken (eqb (at sp w.opened i).value 0) w worker i) h)))
 next_have_runs sp budget workers w (Done worker i) os s may within all k h = run_stays sp w (next sp w (Done worker i)) os k (next_grows sp budget workers w (Done worker i) s may) (all k h)
 next_have_runs sp budget workers w (Wide worker i n) os s may within all k h = run_stays sp w (next sp w (Wide worker i n)) os k (next_grows sp budget workers w (Wide worker i n) s may) (all k h)
 
@@ -83,12 +82,16 @@ greedy_run_to_take {S} sp budget workers entries legal i taken = run_to (all i t
   where
     w : World S
     w = world sp entries
+
     os : List (Opened S)
     os = w.opened
+
     s : Sound sp w
     s = legal_sound sp budget workers entries legal
+
     all : AllHaveRuns sp w os
     all = after_have_runs sp budget workers (begin sp) entries os (begin_sound sp) legal (within_itself sp w s) (λ k h. absurd (not_in_nil k h))
+
     run_to : LeadsUpTo sp w os (run_before sp os (length os) i) i → IsGreedyRunTo sp (states_of sp os (rebuilt sp os i)) (at sp os i).state
     run_to r = rw (map_push (λ k. (at sp os k).state) (run_before sp os (length os) i) i) (record {
       greedy = greedy_push sp (states_of sp os (run_before sp os (length os) i)) (at sp os i).state (at sp os i).value r.is_run.greedy (all_expanded sp w os (run_before sp os (length os) i) s (within_itself sp w s) r.is_run.done) r.follows;

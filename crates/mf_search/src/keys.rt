@@ -8,5 +8,4 @@ pub fn keys_are_ordered<S>()
     ensures same { (a b : Opened S) (i j : ℕ) → KeyAtMost a i b j → KeyAtMost b j a i → i ≡ j }
     ensures through { (a b c : Opened S) (i j k : ℕ) → KeyAtMost a i b j → KeyAtMost b j c k → KeyAtMost a i c k }
     ensures either { (a b : Opened S) (i j : ℕ) → KeyAtMost a i b j ⊎ KeyAtMost b j a i }
-{
-}
+{}

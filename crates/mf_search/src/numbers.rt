@@ -17,5 +17,4 @@ pub fn numbers_are_sound<S>()
     ensures alone { (sp : Space S) (budget workers : ℕ) (entries : List Entry) (this that i : ℕ) → Legal sp budget workers entries → (world sp entries).busy this ≡ Some i → (world sp entries).busy that ≡ Some i → this ≡ that }
     ensures valued { (sp : Space S) (budget workers : ℕ) (entries : List Entry) (i : ℕ) → Legal sp budget workers entries → i < length (world sp entries).opened → sp.value (at sp (world sp entries).opened i).state ≡ Some (at sp (world sp entries).opened i).value }
     ensures parent { (sp : Space S) (budget workers : ℕ) (entries : List Entry) (i p n : ℕ) (helpful : Bool) → Legal sp budget workers entries → i < length (world sp entries).opened → (at sp (world sp entries).opened i).maker ≡ Step p n helpful → p < i }
-{
-}
+{}

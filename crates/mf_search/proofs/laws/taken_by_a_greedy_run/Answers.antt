@@ -1,4 +1,4 @@
-use Rattle.std.proofs.Common.{List, Contains, sym, subst}
+use Rattle.std.proofs.Common.{Contains, sym, subst}
 use Rattle.mf_search.proofs.OneStep.{taken_is}
 use Rattle.mf_search.proofs.Taking.{greedy_run_to_take}
 use Rattle.mf_search.proofs.laws.taken_by_a_greedy_run.Goals as goal

@@ -1,5 +1,4 @@
 use Rattle.std.proofs.Common.{ℕ, List, Contains, ◌≤◌, length, ap, sym, subst}
-use Rattle.mf_search.specs.World.{world}
 use Rattle.mf_search.specs.Rebuilt.{parent_of}
 use Rattle.mf_search.proofs.Sound.{legal_sound}
 use Rattle.mf_search.proofs.OneStep.{taken_is, legal_in_budget}
