@@ -1,5 +1,5 @@
 -- One worker: the taken states are themselves a greedy run, and the ended history is the only one.
-use Rattle.std.proofs.Common.{◌≡◌, ℕ, ◌<◌, ◌≤◌, ◌⊎◌, Bool, true, false, eqb, List, [], ◌∷◌, Some, Contains, length, refl, sym, ap, ap₂, ◌∙◌, inl, inr, subst, arith}
+use Rattle.std.proofs.Common.{◌≡◌, ℕ, ◌<◌, ◌≤◌, ◌⊎◌, Bool, true, false, eqb, List, [], ◌∷◌, Option, Some, None, Contains, length, refl, sym, ap, ap₂, ◌∙◌, inl, inr, subst, arith}
 use Rattle.std.proofs.lemmas.Option.{same_Some}
 use Rattle.std.proofs.lemmas.List.{map_push}
 use Rattle.mf_search.specs.declared.entry.Entry.{Entry}
@@ -8,7 +8,7 @@ use Rattle.mf_search.specs.Space.{Grown, LeadsOut, Space, IsListed, Leads}
 use Rattle.mf_search.specs.World.{Opened, World, at, begin, took, next, after, MayTake, May, LegalFrom, Legal, world, takes}
 use Rattle.mf_search.specs.Greedy.{Follows, Greedy}
 use Rattle.mf_search.specs.Rebuilt.{states_of}
-use Rattle.mf_search.specs.Answers.{Ended}
+use Rattle.mf_search.specs.Answers.{AllIdle, Ended}
 use Rattle.mf_search.proofs.Members.{no_some}
 use Rattle.mf_search.proofs.Sound.{IsStart, MadeByDone, Sound, put_some, put_none, next_grows, next_sound, begin_sound, after_grows, legal_sound}
 use Rattle.mf_search.proofs.Runs.{greedy_nil, greedy_push}
@@ -45,6 +45,14 @@ begin_in_number sp workers v i h = absurd (no_some i h)
 -- In each legal history only the workers from 1 to its number have a state in expansion.
 pub legal_in_number : {S : Type 0} (sp : Space S) (budget workers : ℕ) (entries : List Entry) → Legal sp budget workers entries → InNumber workers (world sp entries)
 legal_in_number sp budget workers entries legal = after_in_number sp budget workers (begin sp) entries legal (begin_in_number sp workers)
+
+-- Where none of these workers has a state in expansion, nothing is.
+pub all_idle : {S : Type 0} (workers : ℕ) (w : World S) → InNumber workers w → ((v : ℕ) → 1 ≤ v → v ≤ workers → w.busy v ≡ None) → AllIdle w
+all_idle {S} workers w all idle v = go (w.busy v) refl
+  where
+    go : (held : Option ℕ) → w.busy v ≡ held → held ≡ None
+    go None e = refl
+    go (Some i) e = let r = all v i e in absurd (no_some i (sym (idle v r.0 r.1) ∙ e))
 
 -- A lone worker that may take has nothing in expansion, and nobody else has.
 lone_idle : {S : Type 0} (sp : Space S) (budget : ℕ) (w : World S) (worker i : ℕ) → InNumber 1 w → MayTake sp budget 1 w worker i → (v k : ℕ) → w.busy v ≡ Some k → ⊥

@@ -342,3 +342,7 @@ apart_states {S} sp os apart i j d low h e = go (length-map os (λ (o : Opened S
     go : length (map (λ (o : Opened S). o.state) os) ≡ length os → ⊥
     go size = let b : j < length os = omega arith in let a : i < length os = omega arith in
         let same : i ≡ j = apart i j a b (sym (here i a) ∙ e ∙ here j b) in omega arith
+
+-- Number 0 is the start.
+pub first_is_start : {S : Type 0} (sp : Space S) (w : World S) → Sound sp w → 0 < length w.opened → IsStart sp w.opened 0
+first_is_start {S} sp w s low = ⊎_elim (λ (start : IsStart sp w.opened 0). start) (λ (made : MadeByDone sp w 0). let l = made.lower in absurd (omega arith)) (s.made 0 low)
