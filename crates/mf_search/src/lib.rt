@@ -17,3 +17,6 @@ pub use maker::Maker;
 pub use numbers::numbers_are_sound;
 pub use status::Status;
 pub use steps::{one_child_more, one_entry_more, one_parent_more, one_take_more};
+
+#[cfg(test)]
+mod tests;
