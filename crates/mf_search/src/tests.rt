@@ -41,4 +41,6 @@ fn laws_hold_at_a_type_of_states() {
     one_parent_more::<u64>();
     numbers_are_sound::<u64>();
     keys_are_ordered::<u64>();
+    columns_are_kept::<u64>();
+    least_is_found::<u64>();
 }
