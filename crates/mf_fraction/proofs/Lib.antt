@@ -1,0 +1,4 @@
+pub mod Divisors
+pub mod Signed
+pub mod Reduced
+pub mod Algebra
