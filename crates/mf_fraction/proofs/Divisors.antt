@@ -83,3 +83,17 @@ gcd_one a = gcd-step a 1 (omega arith) ∙ ap (gcd 1) (nothing a) ∙ gcd_zero 1
   where
     nothing : (a : ℕ) → a % 1 ≡ 0
     nothing a = omega arith
+
+-- a step of Euclid's loop, and its end
+pub gcd-more : (x y g : ℕ) → 0 < y → gcd x y ≡ g → gcd y (x % y) ≡ g
+gcd-more x y g h e = sym (gcd-step x y h) ∙ e
+
+pub gcd-done : (x y g : ℕ) → y ≡ 0 → gcd x y ≡ g → x ≡ g
+gcd-done x y g z e = sym (gcd_zero x) ∙ ap (gcd x) (sym z) ∙ e
+
+pub gcd-quotient : (a b : ℕ) → 0 < b → 0 < b / gcd a b
+gcd-quotient a b h = some (gcd a b) (b / gcd a b) (subst (λ (x : ℕ). 0 < x) (sym (gcd-right a b)) h)
+  where
+    some : (g x : ℕ) → 0 < g * x → 0 < x
+    some g zero h = absurd (omega arith)
+    some g (suc x) h = omega arith

@@ -1,4 +1,6 @@
-pub mod Divisors
-pub mod Signed
-pub mod Reduced
 pub mod Algebra
+pub mod Checks
+pub mod Divisors
+pub mod Operations
+pub mod Reduced
+pub mod Signed

@@ -10,8 +10,8 @@ use std::marker::Model;
 /// A fraction in lowest terms, with a denominator of at least 1 and both parts at most 2^62 in size.
 #[derive(Clone, Copy, Debug)]
 pub struct Frac {
-    numerator: i64,
-    denominator: u64,
+    pub(crate) numerator: i64,
+    pub(crate) denominator: u64,
 }
 
 impl Model for Frac {
