@@ -1,9 +1,9 @@
 -- The laws of sum, difference, negation and product of exact fractions.
-use Rattle.std.proofs.Common.{◌≡◌, ℕ, zero, suc, ◌+◌, ◌*◌, ◌<◌, ℤ, pos, negsuc, ◌+ℤ◌, ◌-ℤ◌, ◌*ℤ◌, neg_ℤ, refl, sym, ap, ap₂, ◌∙◌, arith, mul-pos, mul_comm}
+use Rattle.std.proofs.Common.{◌≡◌, ℕ, ◌*◌, ◌<◌, ℤ, pos, negsuc, ◌+ℤ◌, ◌*ℤ◌, refl, sym, ap₂, ◌∙◌, arith, mul-pos, mul_comm}
 use Rattle.std.proofs.Math.IntN.{+ℤ_comm, *ℤ_comm}
 use Rattle.mf_fraction.specs.Exact.{Number, Proper, whole, reduce, sum_of, difference_of, product_of, negative_of}
-use Rattle.mf_fraction.proofs.Signed.{Is, signed, natural, plus, minus, times, negated, equal_by}
-use Rattle.mf_fraction.proofs.Reduced.{number, reduce-scale, through, reduce_self, reduce_one, reduce_nothing, reduce-proper}
+use Rattle.mf_fraction.proofs.Signed.{signed, natural, plus, minus, times, negated, equal_by}
+use Rattle.mf_fraction.proofs.Reduced.{number, reduce-scale, through, reduce_self, reduce_nothing, reduce-proper}
 
 -- ---- sums
 

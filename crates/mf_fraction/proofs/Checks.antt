@@ -1,5 +1,5 @@
 -- What the checked operations answer, by the size of the parts.
-use Rattle.std.proofs.Common.{◌≡◌, ℕ, zero, suc, ◌<◌, ◌≤◌, ◌^◌, ℤ, pos, negsuc, neg_ℤ, unsigned_abs, Bool, true, false, int_lt, int_div, ◌/◌, Ok, Err, refl, ap, ◌∙◌, sym, subst, arith, rules, tests, FitsSigned, to_z, of_z, to_z-of_z, w64}
+use Rattle.std.proofs.Common.{◌≡◌, ℕ, zero, suc, ◌<◌, ◌≤◌, ◌^◌, ℤ, pos, negsuc, unsigned_abs, Bool, true, false, int_lt, int_div, ◌/◌, Ok, Err, refl, ap, ◌∙◌, sym, subst, arith, rules, tests, FitsSigned, to_z, of_z, to_z-of_z, w64}
 use Rattle.std.specs.Int.{w128}
 use Rattle.std.proofs.lemmas.Int.{fits_signed_from_abs}
 use Rattle.std.proofs.lemmas.Bool.Decides.{nat_tests}

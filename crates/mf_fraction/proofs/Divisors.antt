@@ -1,7 +1,7 @@
 -- The greatest common divisor: it divides both numbers, and a common factor can be taken out of it.
-use Rattle.std.proofs.Common.{◌≡◌, ℕ, zero, suc, ◌+◌, ◌*◌, ◌/◌, ◌%◌, ◌<◌, refl, sym, ap, ◌∙◌, subst, arith, mul-zero, mul-lt-mul_of_pos_right, mul_comm}
-use Rattle.std.proofs.Math.Nat.{div-add-mod, mul-div_cancel', mul-div_cancel_left, eq-zero_of_zero-dvd, mul-lt-mul_of_pos_left, eq_of_mul-eq-mul_left}
-use Rattle.std.specs.Int.{IsGcd, ◌∣◌}
+use Rattle.std.proofs.Common.{◌≡◌, ℕ, zero, suc, ◌+◌, ◌*◌, ◌/◌, ◌%◌, ◌<◌, refl, sym, ap, ◌∙◌, subst, arith, mul-zero}
+use Rattle.std.proofs.Math.Nat.{div-add-mod, mul-div_cancel', mul-lt-mul_of_pos_left, eq_of_mul-eq-mul_left}
+use Rattle.std.specs.Int.{IsGcd}
 use Rattle.std.proofs.lemmas.Nat.{mod-mul-add}
 use Rattle.std.proofs.lemmas.Nat.Gcd.{IsGcd-from_zero, IsGcd-from_mod}
 use Rattle.mf_fraction.specs.Gcd.{gcd, gcd_within}
@@ -51,6 +51,7 @@ mod-scale k a b h p =
   where
     spread : (k b q r a : ℕ) → b * q + r ≡ a → k * a ≡ q * (k * b) + k * r
     spread k b q r a e = ap (λ (x : ℕ). k * x) (sym e) ∙ omega arith
+
     below : (a b : ℕ) → 0 < b → a % b < b
     below a b h = omega arith
 
@@ -75,6 +76,7 @@ gcd-lowest a b h = alone (gcd a b) (gcd (a / gcd a b) (b / gcd a b)) h whole
   where
     whole : gcd a b * gcd (a / gcd a b) (b / gcd a b) ≡ gcd a b
     whole = sym (gcd-scale (gcd a b) (a / gcd a b) (b / gcd a b) h) ∙ ap (λ (x : ℕ). gcd x (gcd a b * (b / gcd a b))) (gcd-left a b) ∙ ap (gcd a) (gcd-right a b)
+
     alone : (g x : ℕ) → 0 < g → g * x ≡ g → x ≡ 1
     alone g x h e = eq_of_mul-eq-mul_left g h x 1 (e ∙ omega arith)
 

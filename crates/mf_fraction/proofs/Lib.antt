@@ -1,5 +1,6 @@
 pub mod Algebra
 pub mod Checks
+pub mod Comparisons
 pub mod Divisors
 pub mod Operations
 pub mod Reduced

@@ -1,13 +1,15 @@
 -- The code of each operation against its exact meaning: the numbers that it makes, as casts leave them.
-use Rattle.std.proofs.Common.{◌≡◌, ℕ, zero, suc, ◌+◌, ◌*◌, ◌<◌, ◌≤◌, ◌^◌, ℤ, pos, negsuc, ◌+ℤ◌, ◌-ℤ◌, ◌*ℤ◌, neg_ℤ, unsigned_abs, int_lt, Bool, true, false, Option, Some, Ok, Err, if◌then◌else◌, refl, sym, ap, ap₂, ◌∙◌, subst, arith, FitsSigned, to_z, of_z, to_z-of_z, w64, mul-pos, rules}
+use Rattle.std.proofs.Common.{◌≡◌, ℕ, zero, suc, ◌*◌, ◌<◌, ◌≤◌, ◌^◌, ℤ, pos, negsuc, ◌+ℤ◌, ◌-ℤ◌, ◌*ℤ◌, unsigned_abs, int_lt, Bool, true, false, Option, Some, Ok, Err, if◌then◌else◌, refl, sym, ap, ap₂, ◌∙◌, subst, arith, FitsSigned, to_z, of_z, to_z-of_z, w64, mul-pos, ◌↔◌, Ordering, Equal, int_cmp}
 use Rattle.std.specs.Int.{Width, w128}
 use Rattle.std.proofs.lemmas.Int.{ints, fits_signed_from_abs}
 use Rattle.std.proofs.lemmas.Bool.Decides.{nat_tests}
-use Rattle.mf_fraction.specs.Exact.{Number, whole, reduce, sum_of, difference_of, product_of, quotient_by, quotient_of, fits}
+use Rattle.mf_fraction.specs.Exact.{Number, Proper, whole, reduce, order_of, sum_of, difference_of, product_of, quotient_by, quotient_of, fits}
 use Rattle.mf_fraction.specs.Checked.{checked, checked_quotient, wide}
 use Rattle.mf_fraction.specs.declared.faults.Wide.{Wide}
 use Rattle.mf_fraction.specs.declared.faults.DivFault.TheVariants as fault
 use Rattle.mf_fraction.specs.Parts.{turned}
+use Rattle.mf_fraction.specs.Kept.{Kept}
+use Rattle.mf_fraction.proofs.Comparisons.{int_cmp-scale, order_of-equal, order_of-same}
 use Rattle.mf_fraction.proofs.Reduced.{number, reduce_one}
 use Rattle.mf_fraction.proofs.Signed.{signed, natural, plus, minus, times, equal_by}
 
@@ -109,6 +111,7 @@ div_long a b n m d e l t s p va vb pn pm h el pl es ep ft et =
   where
     top : wrapped w128 t ≡ turned (int_lt m (pos 0)) (n *ℤ pos e)
     top = to_z-of_z ft ∙ et ∙ ap₂ (λ (x y : ℤ). turned (int_lt x (pos 0)) y) (short_is m pm) (long_is l (omega arith) ∙ cross n l e pn el)
+
     bottom : p ≡ d * unsigned_abs m
     bottom = ep ∙ ap (λ (x : ℕ). d * x) (es ∙ ap unsigned_abs (short_is m pm))
 
@@ -134,3 +137,43 @@ checked_wide a w q e f = rw e (by (fits a) f)
     by : (b : Bool) → Err w ≡ (if b then Ok a else Err wide) → Err fault.Wide ≡ (if b then Ok a else Err fault.Wide)
     by true h = cc
     by false h = refl
+
+-- ---- the order
+pub cmp_short : (a b : Number) (n m : ℤ) (d e : ℕ) → number n d ≡ a → number m e ≡ b → 0 < d → d ≡ e → int_cmp n m ≡ order_of a b
+unfolding order_of
+cmp_short a b n m d e va vb h ed =
+    sym (int_cmp-scale n m d h) ∙ ap (λ (x : ℕ). int_cmp (n *ℤ pos x) (m *ℤ pos d)) ed ∙ ap₂ order_of va vb
+
+pub cmp_long : (a b : Number) (n m : ℤ) (d e : ℕ) (l r : ℤ) → number n d ≡ a → number m e ≡ b → unsigned_abs n ≤ 2 ^ 62 → unsigned_abs m ≤ 2 ^ 62 → l ≡ wrapped w64 n *ℤ pos e → r ≡ wrapped w64 m *ℤ pos d → unsigned_abs l ≤ 2 ^ 124 → unsigned_abs r ≤ 2 ^ 124 → int_cmp (wrapped w128 l) (wrapped w128 r) ≡ order_of a b
+unfolding order_of
+cmp_long a b n m d e l r va vb pn pm el er pl pr =
+    ap₂ int_cmp (long_is l (omega arith) ∙ cross n l e pn el) (long_is r (omega arith) ∙ cross m r d pm er) ∙ ap₂ order_of va vb
+
+pub kept-proper : (a : Number) (n : ℤ) (d : ℕ) → number n d ≡ a → Kept n d → Proper a
+kept-proper a n d e k = subst Proper e (record { lowest = k.lowest; positive = k.positive })
+
+pub cmp_equal : (a b : Number) (n m : ℤ) (d e : ℕ) (r : Ordering) → number n d ≡ a → number m e ≡ b → Kept n d → Kept m e → r ≡ order_of a b → (r ≡ Equal) ↔ (a ≡ b)
+cmp_equal a b n m d e r va vb ka kb h =
+    (λ g. order_of-equal a b (kept-proper a n d va ka) (kept-proper b m e vb kb) (sym h ∙ g), λ g. h ∙ order_of-same a b g)
+
+-- ---- a fraction from two whole numbers
+pub any_bits_zero : (m : ℤ) → FitsSigned w64 m → of_z w64 m ≡ 0 → m ≡ pos 0
+any_bits_zero (pos n) f h = ap pos h
+any_bits_zero (negsuc n) f h = let p = f.sfits in absurd (omega arith)
+
+pub new_zero : (n m : ℤ) → FitsSigned w64 m → of_z w64 m ≡ 0 → Err fault.ZeroDivisor ≡ checked_quotient (quotient_of (whole n) (whole m))
+new_zero n m f h = quotient_zero (whole n) (whole m) m 1 refl (any_bits_zero m f h)
+
+pub new_long : (n m x t : ℤ) (s p : ℕ) → FitsSigned w64 n → FitsSigned w64 m → (of_z w64 m ≡ 0 → ⊥) → x ≡ wrapped w64 n → s ≡ unsigned_abs (wrapped w64 m) → p ≡ s → FitsSigned w128 t → t ≡ turned (int_lt (wrapped w64 m) (pos 0)) (wrapped w128 x) → quotient_of (whole n) (whole m) ≡ Some (reduce (wrapped w128 t) p)
+unfolding quotient_of
+new_long n m x t s p fn fm h ex es ep ft et =
+    quotient_by-turned n 1 m 1 (bits_other m h) ∙ sym (ap Some (ap₂ reduce top bottom))
+  where
+    size : (z : ℤ) → FitsSigned w64 z → unsigned_abs z ≤ 2 ^ 126
+    size z f = omega (arith, ints)
+
+    top : wrapped w128 t ≡ turned (int_lt m (pos 0)) (n *ℤ pos 1)
+    top = to_z-of_z ft ∙ et ∙ ap₂ (λ (u v : ℤ). turned (int_lt u (pos 0)) v) (to_z-of_z fm) (ap (wrapped w128) (ex ∙ to_z-of_z fn) ∙ long_is n (size n fn) ∙ equal_by (signed n) (times (signed n) (natural 1)) (omega arith))
+
+    bottom : p ≡ 1 * unsigned_abs m
+    bottom = ep ∙ es ∙ ap unsigned_abs (to_z-of_z fm) ∙ omega arith

@@ -1,12 +1,12 @@
 -- Lowest terms: a common factor cancels, and what is in lowest terms stays as it is.
-use Rattle.std.proofs.Common.{◌≡◌, ℕ, zero, suc, ◌*◌, ◌/◌, ◌<◌, ◌≤◌, ℤ, pos, negsuc, ◌+ℤ◌, ◌*ℤ◌, neg_ℤ, unsigned_abs, int_div, refl, sym, ap, ap₂, ◌∙◌, subst, subst₂, arith, eq-zero-or-pos, zero-mul, div-one, ◌⊎◌, inl, inr}
+use Rattle.std.proofs.Common.{◌≡◌, ℕ, zero, suc, ◌*◌, ◌/◌, ◌<◌, ℤ, pos, negsuc, ◌*ℤ◌, neg_ℤ, unsigned_abs, int_div, refl, sym, ap, ap₂, ◌∙◌, subst, subst₂, arith, eq-zero-or-pos, zero-mul, div-one, ◌⊎◌, inl, inr}
 use Rattle.std.proofs.Math.Nat.{div-div-eq-div-mul, mul-div_cancel_left, zero-div}
 use Rattle.std.proofs.lemmas.Int.{unsigned_abs-mul}
 use Rattle.std.proofs.Math.IntN.{zero-*ℤ}
 use Rattle.mf_fraction.specs.Gcd.{gcd}
 use Rattle.mf_fraction.specs.Exact.{Number, Proper, whole, reduce}
 use Rattle.mf_fraction.proofs.Divisors.{gcd-left, gcd-right, gcd-positive, gcd-scale, gcd-lowest, gcd_one}
-use Rattle.mf_fraction.proofs.Signed.{Is, signed, natural, times, negated, equal_by}
+use Rattle.mf_fraction.proofs.Signed.{signed, natural, times, negated, equal_by}
 
 -- a number by its parts
 abbrev pub number : ℤ → ℕ → Number
@@ -104,6 +104,7 @@ through top bottom keeps keep n d = by (eq-zero-or-pos (gcd (unsigned_abs n) d))
   where
     Claim : ℤ → ℕ → Type 0
     Claim n d = reduce (top (reduce n d).num (reduce n d).den) (bottom (reduce n d).den) ≡ reduce (top n d) (bottom d)
+
     by : (gcd (unsigned_abs n) d ≡ 0) ⊎ (0 < gcd (unsigned_abs n) d) → Claim n d
     by (inl e) =
         subst₂ Claim (sym (zero-*ℤ (reduce n d).num) ∙ ap (λ (x : ℕ). pos x *ℤ (reduce n d).num) (sym e) ∙ times-num n d) (sym (zero-mul (reduce n d).den) ∙ ap (λ (x : ℕ). x * (reduce n d).den) (sym e) ∙ times-den n d)

@@ -1,5 +1,5 @@
 -- Equations between signed numbers: each number is read as a difference of two natural numbers.
-use Rattle.std.proofs.Common.{◌≡◌, ℕ, ◌+◌, ◌*◌, ℤ, pos, ◌+ℤ◌, ◌-ℤ◌, ◌*ℤ◌, neg_ℤ, ap, arith, refl}
+use Rattle.std.proofs.Common.{◌≡◌, ℕ, ◌+◌, ◌*◌, ℤ, pos, ◌+ℤ◌, ◌-ℤ◌, ◌*ℤ◌, neg_ℤ, ap, arith}
 use borrow.Author.Differences.{up, down, same_in, product_is, sum_is_lem, neg_is}
 
 -- z is a - b

@@ -68,7 +68,7 @@ pub(crate) fn times(n: i64, d: u64) -> i128
 }
 
 // n, or -n where the sign is set.
-fn turned(negative: bool, n: i128) -> i128
+pub(crate) fn turned(negative: bool, n: i128) -> i128
     requires { unsigned_abs n ≤ 2 ^ 124 }
     ensures { result ≡ turned negative n }
 {

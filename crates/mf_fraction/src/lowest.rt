@@ -40,7 +40,11 @@ fn signed(negative: bool, size: u64) -> i64
     requires { size ≤ 2 ^ 62 }
     ensures { result ≡ with_sign negative size }
 {
-    if negative { -(size as i64) } else { size as i64 }
+    if negative {
+        -(size as i64)
+    } else {
+        size as i64
+    }
 }
 
 // The whole number n.

@@ -1,4 +1,4 @@
-use Rattle.std.proofs.Common.{◌≡◌, ◌<◌, ◌*◌, pos, ap, ◌∙◌, FitsSigned, rules, arith, Some}
+use Rattle.std.proofs.Common.{FitsSigned, rules}
 use Rattle.std.specs.Int.{w128}
 use Rattle.mf_fraction.proofs.Operations.{bits_zero, bits_other, divisor_positive, div_long, quotient_zero, checked_ok, checked_wide}
 use Rattle.mf_fraction.proofs.arithmetic.div.Goals as goal

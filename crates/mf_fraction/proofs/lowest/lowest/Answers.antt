@@ -1,5 +1,4 @@
-use Rattle.std.proofs.Common.{arith, ◌∙◌, ap, ◌<◌, ◌/◌, ℕ, subst, sym, ◌≡◌, to_z-of_z, unsigned_abs}
-use Rattle.mf_fraction.specs.Gcd.{gcd}
+use Rattle.std.proofs.Common.{arith, ◌∙◌, ap, to_z-of_z, unsigned_abs}
 use Rattle.mf_fraction.specs.Checked.{checked}
 use Rattle.mf_fraction.proofs.Divisors.{gcd-positive, gcd-quotient, gcd-lowest}
 use Rattle.mf_fraction.proofs.Checks.{lowest-is}

@@ -1,4 +1,4 @@
-use Rattle.std.proofs.Common.{◌≡◌, ◌≤◌, ◌^◌, arith, sym, ap, ◌∙◌, ℕ, ℤ, unsigned_abs, to_z-of_z}
+use Rattle.std.proofs.Common.{◌≡◌, ◌≤◌, ◌^◌, arith, sym, ap, ◌∙◌, unsigned_abs, to_z-of_z}
 use Rattle.mf_fraction.specs.Exact.{whole}
 use Rattle.mf_fraction.proofs.Checks.{stored, whole-kept, cast_short, checked-wide_num}
 use Rattle.mf_fraction.proofs.lowest.whole_fraction.Goals as goal
