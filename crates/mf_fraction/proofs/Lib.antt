@@ -1,7 +1,11 @@
 pub mod Algebra
 pub mod Checks
 pub mod Comparisons
+pub mod DecimalValues
+pub mod Decimals
 pub mod Divisors
 pub mod Operations
 pub mod Reduced
 pub mod Signed
+pub mod Texts
+pub mod Words

@@ -4,13 +4,17 @@
 #![tactic(auto)]
 
 mod arithmetic;
+mod decimal;
 mod divisor;
 mod faults;
 mod fraction;
 mod lowest;
 mod order;
+mod text;
 
 pub use arithmetic::{add, div, mul, sub};
+pub use decimal::read_decimal;
 pub use faults::{DivFault, Memory, NumberFault, Wide};
 pub use fraction::Frac;
 pub use order::{cmp, sign};
+pub use text::write;
