@@ -1,7 +1,8 @@
 -- The laws of sum, difference, negation and product of exact fractions.
-use Rattle.std.proofs.Common.{◌≡◌, ℕ, ◌*◌, ◌<◌, ℤ, pos, negsuc, ◌+ℤ◌, ◌*ℤ◌, refl, sym, ap₂, ◌∙◌, arith, mul-pos, mul_comm}
+use Rattle.std.proofs.Common.{◌≡◌, ℕ, zero, suc, ◌+◌, ◌*◌, ◌<◌, ◌↔◌, ℤ, pos, negsuc, ◌+ℤ◌, ◌-ℤ◌, ◌*ℤ◌, neg_ℤ, unsigned_abs, Option, Some, None, refl, sym, ap, ap₂, ◌∙◌, subst, arith, mul-pos, mul_comm}
 use Rattle.std.proofs.Math.IntN.{+ℤ_comm, *ℤ_comm}
-use Rattle.mf_fraction.specs.Exact.{Number, Proper, whole, reduce, sum_of, difference_of, product_of, negative_of}
+use Rattle.mf_fraction.specs.Gcd.{gcd}
+use Rattle.mf_fraction.specs.Exact.{Number, Proper, whole, reduce, sum_of, difference_of, product_of, quotient_by, quotient_of, negative_of}
 use Rattle.mf_fraction.proofs.Signed.{signed, natural, plus, minus, times, negated, equal_by}
 use Rattle.mf_fraction.proofs.Reduced.{number, reduce-scale, through, reduce_self, reduce_nothing, reduce-proper}
 
@@ -103,3 +104,58 @@ unfolding difference_of sum_of product_of
 difference_of-product a b =
     ap₂ reduce (equal_by (minus (times (signed a.num) (natural b.den)) (times (signed b.num) (natural a.den))) (plus (times (signed a.num) (natural (1 * b.den))) (times (times (signed (negsuc 0)) (signed b.num)) (natural a.den))) (omega arith)) (omega arith)
     ∙ sym (sum_of-reduce_right a (negsuc 0 *ℤ b.num) (1 * b.den))
+
+-- ---- quotients
+pub quotient_of-none : (a b : Number) → (quotient_of a b ≡ None) ↔ (b.num ≡ pos 0)
+unfolding quotient_of quotient_by
+quotient_of-none a b = by b.num
+  where
+    by : (m : ℤ) → (quotient_by a.num a.den m b.den ≡ None) ↔ (m ≡ pos 0)
+    by (pos zero) = (λ _. refl, λ _. refl)
+    by (pos (suc m)) = (λ e. cc, λ e. absurd (apart m (ap unsigned_abs e)))
+      where
+        apart : (m : ℕ) → suc m ≡ 0 → ⊥
+        apart m e = omega arith
+    by (negsuc m) = (λ e. cc, λ e. cc)
+
+quotient_by-product : (n : ℤ) (d : ℕ) (b : Number) (m : ℤ) (q : Number) → 0 < b.den → b.num ≡ m → quotient_by n d m b.den ≡ Some q → product_of q b ≡ reduce n d
+unfolding quotient_by product_of
+quotient_by-product n d b (pos zero) q h f e = cc
+quotient_by-product n d b (pos (suc m)) q h f e =
+    let is : reduce (n *ℤ pos b.den) (d * suc m) ≡ q = cc in
+    ap (λ (x : Number). product_of x b) (sym is) ∙ product_of-reduce_left (n *ℤ pos b.den) (d * suc m) b
+    ∙ ap (λ (x : ℤ). reduce (n *ℤ pos b.den *ℤ x) (d * suc m * b.den)) f
+    ∙ ap₂ reduce (equal_by (times (times (signed n) (natural b.den)) (natural (suc m))) (times (natural (suc m * b.den)) (signed n)) (omega arith)) (omega arith)
+    ∙ reduce-scale (suc m * b.den) n d (mul-pos (omega arith) h)
+quotient_by-product n d b (negsuc m) q h f e =
+    let is : reduce (neg_ℤ (n *ℤ pos b.den)) (d * suc m) ≡ q = cc in
+    ap (λ (x : Number). product_of x b) (sym is) ∙ product_of-reduce_left (neg_ℤ (n *ℤ pos b.den)) (d * suc m) b
+    ∙ ap (λ (x : ℤ). reduce (neg_ℤ (n *ℤ pos b.den) *ℤ x) (d * suc m * b.den)) f
+    ∙ ap₂ reduce (equal_by (times (negated (times (signed n) (natural b.den))) (negated (natural (suc m)))) (times (natural (suc m * b.den)) (signed n)) (omega arith)) (omega arith)
+    ∙ reduce-scale (suc m * b.den) n d (mul-pos (omega arith) h)
+
+-- the quotient times the divisor
+pub quotient_of-product : (a b q : Number) → Proper a → 0 < b.den → quotient_of a b ≡ Some q → product_of q b ≡ a
+unfolding quotient_of
+quotient_of-product a b q p h e = quotient_by-product a.num a.den b b.num q h refl e ∙ reduce_self a p
+
+quotient_by-proper : (n : ℤ) (d : ℕ) (m : ℤ) (e : ℕ) (q : Number) → 0 < d → quotient_by n d m e ≡ Some q → Proper q
+unfolding quotient_by
+quotient_by-proper n d (pos zero) e q h f = cc
+quotient_by-proper n d (pos (suc m)) e q h f =
+    let is : reduce (n *ℤ pos e) (d * suc m) ≡ q = cc in subst Proper is (reduce-proper (n *ℤ pos e) (d * suc m) (mul-pos h (omega arith)))
+quotient_by-proper n d (negsuc m) e q h f =
+    let is : reduce (neg_ℤ (n *ℤ pos e)) (d * suc m) ≡ q = cc in subst Proper is (reduce-proper (neg_ℤ (n *ℤ pos e)) (d * suc m) (mul-pos h (omega arith)))
+
+pub quotient_of-proper : (a b q : Number) → 0 < a.den → quotient_of a b ≡ Some q → Proper q
+unfolding quotient_of
+quotient_of-proper a b q h e = quotient_by-proper a.num a.den b.num b.den q h e
+
+pub negative_of-proper : (a : Number) → Proper a → Proper (negative_of a)
+unfolding negative_of
+negative_of-proper a p = record { lowest = ap (λ (x : ℕ). gcd x a.den) (same a.num) ∙ p.lowest; positive = p.positive }
+  where
+    same : (z : ℤ) → unsigned_abs (neg_ℤ z) ≡ unsigned_abs z
+    same (pos zero) = refl
+    same (pos (suc n)) = refl
+    same (negsuc n) = refl

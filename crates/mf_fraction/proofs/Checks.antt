@@ -1,5 +1,5 @@
 -- What the checked operations answer, by the size of the parts.
-use Rattle.std.proofs.Common.{◌≡◌, ℕ, zero, suc, ◌<◌, ◌≤◌, ◌^◌, ℤ, pos, negsuc, unsigned_abs, Bool, true, false, int_lt, int_div, ◌/◌, Ok, Err, refl, ap, ◌∙◌, sym, subst, arith, rules, tests, FitsSigned, to_z, of_z, to_z-of_z, w64}
+use Rattle.std.proofs.Common.{◌≡◌, ℕ, zero, suc, ◌<◌, ◌≤◌, ◌^◌, ℤ, pos, negsuc, unsigned_abs, Bool, true, false, cond, int_lt, int_div, ◌/◌, Ok, Err, refl, ap, ◌∙◌, sym, subst, arith, rules, tests, FitsSigned, to_z, of_z, to_z-of_z, w64}
 use Rattle.std.specs.Int.{w128}
 use Rattle.std.proofs.lemmas.Int.{fits_signed_from_abs}
 use Rattle.std.proofs.lemmas.Bool.Decides.{nat_tests}
@@ -10,6 +10,19 @@ use Rattle.mf_fraction.specs.Kept.{Kept}
 use Rattle.mf_fraction.proofs.Divisors.{gcd_one}
 use Rattle.mf_fraction.proofs.Reduced.{number}
 use Rattle.mf_fraction.specs.Parts.{with_sign}
+
+pub fits_small : (a : Number) → unsigned_abs a.num ≤ 2 ^ 62 → a.den ≤ 2 ^ 62 → fits a ≡ true
+unfolding fits
+fits_small a p q = search (rules, tests)
+
+-- a stored answer is the exact result, and it fits
+pub checked_ok-is : (a x : Number) → checked a ≡ Ok x → (x ≡ a) × (fits a ≡ true)
+unfolding checked
+checked_ok-is a x e = by (fits a) refl e
+  where
+    by : (b : Bool) → fits a ≡ b → cond b (Ok a) (Err wide) ≡ Ok x → (x ≡ a) × (fits a ≡ true)
+    by true f h = (cc, f)
+    by false f h = cc
 
 pub checked-fits : (a : Number) → unsigned_abs a.num ≤ 2 ^ 62 → a.den ≤ 2 ^ 62 → checked a ≡ Ok a
 unfolding checked fits

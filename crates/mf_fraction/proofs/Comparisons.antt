@@ -8,22 +8,22 @@ use Rattle.mf_fraction.proofs.Signed.{signed, natural, times, equal_by}
 use Rattle.mf_fraction.proofs.Reduced.{reduce-scale, reduce_self}
 
 -- two tests that hold together and fail together
-same_test : (b c : Bool) → (b ≡ true → c ≡ true) → (b ≡ false → c ≡ false) → c ≡ b
+pub same_test : (b c : Bool) → (b ≡ true → c ≡ true) → (b ≡ false → c ≡ false) → c ≡ b
 same_test true c t f = t refl
 same_test false c t f = f refl
 
-int_lt-yes : (x y : ℤ) → x <ℤ y → int_lt x y ≡ true
+pub int_lt-yes : (x y : ℤ) → x <ℤ y → int_lt x y ≡ true
 int_lt-yes x y h = by (int_lt x y) h.lt
   where
     by : (b : Bool) → T b → b ≡ true
     by true t = refl
     by false t = absurd t
 
-int_lt-no : (x y : ℤ) → y ≤ℤ x → int_lt x y ≡ false
+pub int_lt-no : (x y : ℤ) → y ≤ℤ x → int_lt x y ≡ false
 int_lt-no x y h = grind (arith, ints)
 
 -- a common positive factor keeps the order
-int_lt-scale : (x y : ℤ) (d : ℕ) → 0 < d → int_lt (x *ℤ pos d) (y *ℤ pos d) ≡ int_lt x y
+pub int_lt-scale : (x y : ℤ) (d : ℕ) → 0 < d → int_lt (x *ℤ pos d) (y *ℤ pos d) ≡ int_lt x y
 int_lt-scale x y d h = same_test (int_lt x y) (int_lt (x *ℤ pos d) (y *ℤ pos d)) yes no
   where
     above : up x + down y < up y + down x → (x *ℤ pos d) <ℤ (y *ℤ pos d)
@@ -42,10 +42,10 @@ pub int_cmp-scale : (x y : ℤ) (d : ℕ) → 0 < d → int_cmp (x *ℤ pos d) (
 int_cmp-scale x y d h =
     ap₂ (λ (s t : Bool). cond s Less (cond t Greater Equal)) (int_lt-scale x y d h) (int_lt-scale y x d h)
 
-int_cmp-same : (x : ℤ) → int_cmp x x ≡ Equal
+pub int_cmp-same : (x : ℤ) → int_cmp x x ≡ Equal
 int_cmp-same x = ap (λ (s : Bool). cond s Less (cond s Greater Equal)) (int_lt-no x x (omega (arith, ints)))
 
-int_cmp-equal : (x y : ℤ) → int_cmp x y ≡ Equal → x ≡ y
+pub int_cmp-equal : (x y : ℤ) → int_cmp x y ≡ Equal → x ≡ y
 int_cmp-equal x y e = by (int_lt x y) refl (int_lt y x) refl e
   where
     by : (s : Bool) → int_lt x y ≡ s → (t : Bool) → int_lt y x ≡ t → cond s Less (cond t Greater Equal) ≡ Equal → x ≡ y

@@ -4,7 +4,9 @@ pub mod Comparisons
 pub mod DecimalValues
 pub mod Decimals
 pub mod Divisors
+pub mod Equality
 pub mod Operations
+pub mod OrderLaws
 pub mod Reduced
 pub mod Signed
 pub mod Texts

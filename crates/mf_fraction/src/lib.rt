@@ -8,6 +8,7 @@ mod decimal;
 mod divisor;
 mod faults;
 mod fraction;
+pub mod laws;
 mod lowest;
 mod order;
 mod text;
