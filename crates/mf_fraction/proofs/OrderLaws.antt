@@ -74,6 +74,7 @@ int_lt-difference x y = same_test (int_lt x y) (int_lt (x -ℤ y) (pos 0)) yes n
   where
     yes : int_lt x y ≡ true → int_lt (x -ℤ y) (pos 0) ≡ true
     yes e = int_lt-yes (x -ℤ y) (pos 0) (omega (arith, ints))
+
     no : int_lt x y ≡ false → int_lt (x -ℤ y) (pos 0) ≡ false
     no e = int_lt-no (x -ℤ y) (pos 0) (omega (arith, ints))
 
@@ -82,6 +83,7 @@ difference-int_lt x y = same_test (int_lt y x) (int_lt (pos 0) (x -ℤ y)) yes n
   where
     yes : int_lt y x ≡ true → int_lt (pos 0) (x -ℤ y) ≡ true
     yes e = int_lt-yes (pos 0) (x -ℤ y) (omega (arith, ints))
+
     no : int_lt y x ≡ false → int_lt (pos 0) (x -ℤ y) ≡ false
     no e = int_lt-no (pos 0) (x -ℤ y) (omega (arith, ints))
 
@@ -116,5 +118,6 @@ below-difference a b p q = along (by (int_lt (a.num *ℤ pos b.den) (b.num *ℤ 
     by true t = (λ _. refl, λ _. refl)
     by false true = (λ e. absurd (true≢false (sym e)), λ e. cc)
     by false false = (λ e. absurd (true≢false (sym e)), λ e. cc)
+
     along : (is_below a b ≡ true) ↔ (sign_at (order_of a b) ≡ negsuc 0) → (is_below a b ≡ true) ↔ (sign_of (difference_of a b) ≡ negsuc 0)
     along h = (λ e. sign_of-difference a b p q ∙ h.0 e, λ e. h.1 (sym (sign_of-difference a b p q) ∙ e))

@@ -15,8 +15,7 @@ pub fn sum_laws()
     ensures zero { (a : Number) → Proper a → sum_of (whole (pos 0)) a ≡ a }
     ensures negation { (a : Number) → Proper a → sum_of a (negative_of a) ≡ whole (pos 0) }
     ensures proper { (a : Number) → (b : Number) → Proper a → Proper b → Proper (sum_of a b) }
-{
-}
+{}
 
 /// Differences.
 pub fn difference_laws()
@@ -29,8 +28,7 @@ pub fn difference_laws()
         → (is_below a b ≡ true) ↔ (sign_of (difference_of a b) ≡ negsuc 0) }
     ensures proper { (a : Number) → (b : Number) → Proper a → Proper b → Proper (difference_of a b) }
     ensures proper_negation { (a : Number) → Proper a → Proper (negative_of a) }
-{
-}
+{}
 
 /// Products.
 pub fn product_laws()
@@ -42,8 +40,7 @@ pub fn product_laws()
     ensures one { (a : Number) → Proper a → product_of (whole (pos 1)) a ≡ a }
     ensures zero { (a : Number) → Proper a → product_of (whole (pos 0)) a ≡ whole (pos 0) }
     ensures proper { (a : Number) → (b : Number) → Proper a → Proper b → Proper (product_of a b) }
-{
-}
+{}
 
 /// Quotients.
 pub fn quotient_laws()
@@ -52,14 +49,13 @@ pub fn quotient_laws()
         → quotient_of a b ≡ Some q → product_of q b ≡ a }
     ensures proper { (a : Number) → (b : Number) → (q : Number) → Proper a
         → quotient_of a b ≡ Some q → Proper q }
-{
-}
+{}
 
 /// The order.
 pub fn order_laws()
     ensures three { (a : Number) → (b : Number)
         → order_of a b ≡ (if is_below a b then Less
-            else (if is_below b a then Greater else Equal)) }
+        else (if is_below b a then Greater else Equal)) }
     ensures total { (a : Number) → (b : Number) → is_at_most a b ≡ not (is_below b a) }
     ensures same { (a : Number) → (b : Number)
         → is_same a b ≡ (not (is_below a b) && not (is_below b a)) }
@@ -68,16 +64,14 @@ pub fn order_laws()
     ensures irreflexive { (a : Number) → is_below a a ≡ false }
     ensures transitive { (a : Number) → (b : Number) → (c : Number) → Proper c
         → is_below a b ≡ true → is_below b c ≡ true → is_below a c ≡ true }
-{
-}
+{}
 
 /// Lowest terms.
 pub fn reduction_laws()
     ensures factor { (k : ℕ) → (n : ℤ) → (d : ℕ) → 0 < k → reduce (pos k *ℤ n) (k * d) ≡ reduce n d }
     ensures kept { (a : Number) → Proper a → reduce a.num a.den ≡ a }
     ensures proper { (n : ℤ) → (d : ℕ) → 0 < d → Proper (reduce n d) }
-{
-}
+{}
 
 /// Each stored fraction is in lowest terms and fits.
 pub fn stored_laws(a: Frac)

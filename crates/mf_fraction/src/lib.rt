@@ -19,3 +19,6 @@ pub use faults::{DivFault, Memory, NumberFault, Wide};
 pub use fraction::Frac;
 pub use order::{cmp, sign};
 pub use text::write;
+
+#[cfg(test)]
+mod tests;

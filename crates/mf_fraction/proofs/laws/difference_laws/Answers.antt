@@ -9,5 +9,5 @@ returns c = record {
   sign = λ a b p q. sign_of-difference a b p.positive q.positive;
   below = λ a b p q. below-difference a b p.positive q.positive;
   proper = λ a b p q. difference_of-proper a b p.positive q.positive;
-  proper_negation = negative_of-proper
+  proper_negation = negative_of-proper;
 }

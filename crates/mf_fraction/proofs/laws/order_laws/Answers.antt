@@ -9,5 +9,5 @@ returns c = record {
   equal = equal_from_same;
   reflexive = is_same-self;
   irreflexive = is_below-self;
-  transitive = λ a b c p e f. is_below-trans a b c p.positive e f
+  transitive = λ a b c p e f. is_below-trans a b c p.positive e f;
 }

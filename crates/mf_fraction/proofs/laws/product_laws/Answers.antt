@@ -8,5 +8,5 @@ returns c = record {
   distributive = λ a b c p. product_of-sum a b c p.positive;
   one = product_of-one;
   zero = λ a p. product_of-zero a p.positive;
-  proper = λ a b p q. product_of-proper a b p.positive q.positive
+  proper = λ a b p q. product_of-proper a b p.positive q.positive;
 }

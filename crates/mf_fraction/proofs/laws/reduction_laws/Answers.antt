@@ -5,5 +5,5 @@ pub returns : goal.returns
 returns c = record {
   factor = reduce-scale;
   kept = reduce_self;
-  proper = reduce-proper
+  proper = reduce-proper;
 }

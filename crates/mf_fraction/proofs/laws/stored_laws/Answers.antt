@@ -8,5 +8,5 @@ use Rattle.mf_fraction.proofs.laws.stored_laws.Goals as goal
 pub returns : goal.returns
 returns c = record {
   proper = kept-proper c.args.a c.a.inside.numerator c.a.inside.denominator c.a.view_is c.a.invariant;
-  narrow = subst (λ (x : Number). fits x ≡ true) c.a.view_is (fits_small (number c.a.inside.numerator c.a.inside.denominator) c.a.invariant.numerator_size c.a.invariant.denominator_size)
+  narrow = subst (λ (x : Number). fits x ≡ true) c.a.view_is (fits_small (number c.a.inside.numerator c.a.inside.denominator) c.a.invariant.numerator_size c.a.invariant.denominator_size);
 }

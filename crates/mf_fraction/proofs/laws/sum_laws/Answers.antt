@@ -7,5 +7,5 @@ returns c = record {
   associative = sum_of-assoc;
   zero = sum_of-zero;
   negation = λ a p. sum_of-negative a p.positive;
-  proper = λ a b p q. sum_of-proper a b p.positive q.positive
+  proper = λ a b p q. sum_of-proper a b p.positive q.positive;
 }
