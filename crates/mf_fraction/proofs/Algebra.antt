@@ -1,5 +1,5 @@
 -- The laws of sum, difference, negation and product of exact fractions.
-use Rattle.std.proofs.Common.{◌≡◌, ℕ, zero, suc, ◌+◌, ◌*◌, ◌<◌, ◌↔◌, ℤ, pos, negsuc, ◌+ℤ◌, ◌-ℤ◌, ◌*ℤ◌, neg_ℤ, unsigned_abs, Option, Some, None, refl, sym, ap, ap₂, ◌∙◌, subst, arith, mul-pos, mul_comm}
+use Rattle.std.proofs.Common.{◌≡◌, ℕ, zero, suc, ◌*◌, ◌<◌, ◌↔◌, ℤ, pos, negsuc, ◌+ℤ◌, ◌*ℤ◌, neg_ℤ, unsigned_abs, Some, None, refl, sym, ap, ap₂, ◌∙◌, subst, arith, mul-pos, mul_comm}
 use Rattle.std.proofs.Math.IntN.{+ℤ_comm, *ℤ_comm}
 use Rattle.mf_fraction.specs.Gcd.{gcd}
 use Rattle.mf_fraction.specs.Exact.{Number, Proper, whole, reduce, sum_of, difference_of, product_of, quotient_by, quotient_of, negative_of}

@@ -1,5 +1,5 @@
 -- The value of digits before and behind the point: zeros at the end change nothing, and too great a number does not fit.
-use Rattle.std.proofs.Common.{◌≡◌, ℕ, zero, suc, ◌+◌, ◌-◌, ◌*◌, ◌^◌, ◌<◌, ◌≤◌, ℤ, pos, ◌*ℤ◌, unsigned_abs, List, [], ◌∷◌, ◌++◌, length, take, Bool, true, false, cond, ◌&&◌, ◌==◌, Option, Some, None, Ok, Err, if◌then◌else◌, refl, sym, ap, ap₂, ◌∙◌, arith, one-add, pow-add, length-take-le, lt-ltb, leb, ltb, ltb-true, ltb-false, leb-true, leb-false, le-ltb, le_trans, mul-le-mul, eqb-true, to_z}
+use Rattle.std.proofs.Common.{◌≡◌, ℕ, zero, suc, ◌+◌, ◌-◌, ◌*◌, ◌^◌, ◌<◌, ◌≤◌, ℤ, pos, ◌*ℤ◌, unsigned_abs, List, [], ◌∷◌, ◌++◌, length, take, Bool, true, false, cond, ◌&&◌, ◌==◌, Option, Some, None, Ok, Err, if◌then◌else◌, refl, sym, ap, ap₂, ◌∙◌, arith, one-add, pow-add, length-take-le, lt-ltb, leb, ltb, ltb-true, ltb-false, leb-true, leb-false, le-ltb, le_trans, mul-le-mul, eqb-true, to_z, ◌↔◌, true≢false}
 use Rattle.std.specs.Int.{w128}
 use Rattle.std.proofs.lemmas.Int.{unsigned_abs-mul, to_z_pos}
 use Rattle.mf_fraction.specs.Gcd.{gcd}
@@ -8,7 +8,8 @@ use Rattle.mf_fraction.specs.Checked.{checked, wide}
 use Rattle.mf_fraction.specs.declared.faults.Wide.{Wide}
 use Rattle.mf_fraction.specs.declared.faults.NumberFault.TheVariants as fault
 use Rattle.mf_fraction.specs.Parts.{with_sign, turned}
-use Rattle.mf_fraction.specs.Decimal.{places, digits_value, decimal_value, checked_value, read_parts}
+use Rattle.mf_fraction.specs.Decimal.{places, digits_value, decimal_value, checked_value, read_parts, read_unsigned, read_of, is_number, has_minus, without_minus, is_point}
+use Rattle.std.specs.List.{before_first, after_first}
 use Rattle.mf_fraction.specs.Within.{within, continued}
 use Rattle.mf_fraction.proofs.Signed.{natural, times, negated, equal_by}
 use Rattle.mf_fraction.proofs.Reduced.{reduce-scale, times-num, times-den, den-positive}
@@ -165,3 +166,21 @@ parts_ok s front back c n t p x e h f g i r =
 pub parts_wide : (s : Bool) (front back : List ℕ) (c n : ℕ) (t : ℤ) (p : ℕ) (w : Wide) → c ≡ places back → c ≤ 18 → Some n ≡ within (digits_value (front ++ take c back)) → t ≡ turned s (to_z w128 n) → p ≡ 10 ^ c → Err w ≡ checked (reduce (wrapped w128 t) p) → Err fault.Wide ≡ read_parts s front back
 parts_wide s front back c n t p w e h f g i r =
     value_wide _ w (r ∙ ap checked (ap₂ reduce (stored_size s n _ t f g) i)) ∙ sym (parts-few s front back c e h)
+
+-- ---- what is no number
+parts-number : (s : Bool) (front back : List ℕ) → read_parts s front back ≡ Err fault.NotANumber → ⊥
+unfolding read_parts checked_value
+parts-number s front back e = by (ltb 18 (places back)) (fits (decimal_value s front back)) e
+  where
+    by : (t u : Bool) → cond t (Err fault.Wide) (cond u (Ok (decimal_value s front back)) (Err fault.Wide)) ≡ Err fault.NotANumber → ⊥
+    by true u h = cc
+    by false true h = cc
+    by false false h = cc
+
+pub not_a_number : (word : List ℕ) → (read_of word ≡ Err fault.NotANumber) ↔ (is_number word ≡ false)
+unfolding read_of read_unsigned
+not_a_number word = by (is_number word) refl
+  where
+    by : (t : Bool) → is_number word ≡ t → (cond (is_number word) (read_parts (has_minus word) (before_first is_point (without_minus word)) (after_first is_point (without_minus word))) (Err fault.NotANumber) ≡ Err fault.NotANumber) ↔ (is_number word ≡ false)
+    by true f = (λ e. absurd (parts-number (has_minus word) _ _ (ap (λ (t : Bool). cond t (read_parts (has_minus word) (before_first is_point (without_minus word)) (after_first is_point (without_minus word))) (Err fault.NotANumber)) (sym f) ∙ e)), λ e. absurd (true≢false (sym f ∙ e)))
+    by false f = (λ _. f, λ e. ap (λ (t : Bool). cond t (read_parts (has_minus word) (before_first is_point (without_minus word)) (after_first is_point (without_minus word))) (Err fault.NotANumber)) f)

@@ -6,6 +6,7 @@ pub mod Decimals
 pub mod Divisors
 pub mod Equality
 pub mod Operations
+pub mod Monotone
 pub mod OrderLaws
 pub mod Reduced
 pub mod Signed

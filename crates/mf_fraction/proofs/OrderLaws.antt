@@ -1,17 +1,16 @@
 -- The laws of the order: its tests agree, it is total and transitive, and it is the sign of the difference.
-use Rattle.std.proofs.Common.{◌≡◌, ℕ, zero, suc, ◌+◌, ◌*◌, ◌<◌, ◌≤◌, ℤ, pos, negsuc, ◌+ℤ◌, ◌-ℤ◌, ◌*ℤ◌, neg_ℤ, unsigned_abs, int_lt, int_le, int_cmp, Bool, true, false, not, cond, ◌&&◌, if◌then◌else◌, Ordering, Less, Equal, Greater, is_eq, refl, sym, ap, ap₂, ◌∙◌, subst, arith, true≢false, ◌↔◌, mul-le-mul_right, mul-lt-mul_of_pos_right, zero-mul, zero-add, mul-pos}
+use Rattle.std.proofs.Common.{◌≡◌, ℕ, zero, suc, ◌+◌, ◌*◌, ◌<◌, ◌≤◌, ℤ, pos, negsuc, ◌-ℤ◌, ◌*ℤ◌, unsigned_abs, int_lt, int_le, int_cmp, Bool, true, false, not, cond, ◌&&◌, if◌then◌else◌, Ordering, Less, Equal, Greater, is_eq, refl, sym, ap, ap₂, ◌∙◌, arith, true≢false, ◌↔◌, mul-le-mul_right, mul-lt-mul_of_pos_right, zero-mul, mul-pos}
 use Rattle.std.proofs.Math.Nat.{lt_of_mul-lt-mul_right}
-use Rattle.std.specs.Prelude.{◌<ℤ◌, ◌≤ℤ◌}
 use Rattle.std.specs.Int.{int_signum}
 use Rattle.std.proofs.lemmas.Int.{ints}
 use Rattle.std.proofs.lemmas.Bool.Decides.{nat_tests}
 use borrow.Author.Differences.{up, down}
 use Rattle.mf_fraction.specs.Gcd.{gcd}
-use Rattle.mf_fraction.specs.Exact.{Number, Proper, whole, reduce, order_of, is_below, is_at_most, is_same, difference_of, sign_of, sign_at}
-use Rattle.mf_fraction.proofs.Signed.{Is, signed, natural, times, equal_by}
+use Rattle.mf_fraction.specs.Exact.{Number, Proper, reduce, order_of, is_below, is_at_most, is_same, difference_of, sign_of, sign_at}
+use Rattle.mf_fraction.proofs.Signed.{signed, natural, times, equal_by}
 use Rattle.mf_fraction.proofs.Divisors.{gcd-positive}
 use Rattle.mf_fraction.proofs.Reduced.{times-num}
-use Rattle.mf_fraction.proofs.Comparisons.{same_test, int_lt-yes, int_lt-no, int_lt-scale, int_cmp-scale, int_cmp-same, int_cmp-equal, equal_from_cross}
+use Rattle.mf_fraction.proofs.Comparisons.{same_test, int_lt-yes, int_lt-no, int_cmp-scale, int_cmp-same, int_cmp-equal, equal_from_cross}
 
 -- ---- the tests
 int_le-is : (x y : ℤ) → int_le x y ≡ not (int_lt y x)
@@ -93,7 +92,7 @@ signum-is (pos zero) = refl
 signum-is (pos (suc n)) = grind (arith, nat_tests)
 signum-is (negsuc n) = refl
 
-int_cmp-difference : (x y : ℤ) → int_cmp (x -ℤ y) (pos 0) ≡ int_cmp x y
+pub int_cmp-difference : (x y : ℤ) → int_cmp (x -ℤ y) (pos 0) ≡ int_cmp x y
 int_cmp-difference x y =
     ap₂ (λ (s t : Bool). cond s Less (cond t Greater Equal)) (int_lt-difference x y) (difference-int_lt x y)
 

@@ -1,11 +1,12 @@
 //! Laws of the exact operations, for fractions of any size. Each function here does nothing: its
 //! clauses are the laws.
 
+ghost use Rattle.mf_fraction.specs.Decimal.{is_number, read_of};
 ghost use Rattle.mf_fraction.specs.Exact.{Number, Proper, whole, reduce, sum_of, difference_of, product_of, quotient_of, negative_of, order_of, is_below, is_at_most, is_same, sign_of, sign_at, fits};
 ghost use Rattle.std.specs.declared.cmp.Ordering.TheVariants.{Less, Equal, Greater};
-ghost use Rattle.std.specs.Prelude.{◌≡◌, ◌<◌, ◌↔◌, ◌*◌, ◌*ℤ◌, ◌&&◌, ℕ, ℤ, pos, negsuc, true, false, not, Some, None, if◌then◌else◌};
+ghost use Rattle.std.specs.Prelude.{◌≡◌, ◌<◌, ◌↔◌, ◌*◌, ◌*ℤ◌, ◌&&◌, ℕ, ℤ, pos, negsuc, true, false, not, List, Some, None, Err, if◌then◌else◌};
 
-use crate::Frac;
+use crate::{Frac, NumberFault};
 
 /// Sums.
 pub fn sum_laws()
@@ -66,11 +67,27 @@ pub fn order_laws()
         → is_below a b ≡ true → is_below b c ≡ true → is_below a c ≡ true }
 {}
 
+/// The order of sums, products and negations.
+pub fn monotone_laws()
+    ensures sum { (a : Number) → (b : Number) → (c : Number) → Proper a → Proper b → Proper c
+        → order_of (sum_of a c) (sum_of b c) ≡ order_of a b }
+    ensures product { (a : Number) → (b : Number) → (c : Number) → Proper a → Proper b → Proper c
+        → sign_of c ≡ pos 1 → order_of (product_of a c) (product_of b c) ≡ order_of a b }
+    ensures negation { (a : Number) → (b : Number)
+        → order_of (negative_of a) (negative_of b) ≡ order_of b a }
+{}
+
 /// Lowest terms.
 pub fn reduction_laws()
     ensures factor { (k : ℕ) → (n : ℤ) → (d : ℕ) → 0 < k → reduce (pos k *ℤ n) (k * d) ≡ reduce n d }
     ensures kept { (a : Number) → Proper a → reduce a.num a.den ≡ a }
     ensures proper { (n : ℤ) → (d : ℕ) → 0 < d → Proper (reduce n d) }
+{}
+
+/// Reading: `NotANumber` comes exactly at the words that are no decimal number.
+pub fn reading_laws()
+    ensures { (word : List ℕ)
+        → (read_of word ≡ Err NumberFault.NotANumber) ↔ (is_number word ≡ false) }
 {}
 
 /// Each stored fraction is in lowest terms and fits.
