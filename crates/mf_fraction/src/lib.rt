@@ -10,6 +10,7 @@ mod faults;
 mod fraction;
 pub mod laws;
 mod lowest;
+mod negative;
 mod order;
 mod text;
 
@@ -17,6 +18,7 @@ pub use arithmetic::{add, div, mul, sub};
 pub use decimal::read_decimal;
 pub use faults::{DivFault, Memory, NumberFault, Wide};
 pub use fraction::Frac;
+pub use negative::neg;
 pub use order::{cmp, sign};
 pub use text::write;
 
