@@ -4,3 +4,9 @@ pub mod Arguments
 pub mod ConjunctionLaws
 pub mod EffectLaws
 pub mod Applicable
+pub mod Values
+pub mod LeastOpen
+pub mod Marks
+pub mod Advancing
+pub mod Starting
+pub mod OpeningChildren
