@@ -9,4 +9,7 @@ pub mod LeastOpen
 pub mod Marks
 pub mod Advancing
 pub mod Starting
+pub mod Bridge
+pub mod Lawful
+pub mod TraceLaws
 pub mod OpeningChildren

@@ -6,6 +6,7 @@ mod applying;
 mod fault;
 mod history;
 mod holding;
+mod laws;
 mod least;
 mod listing;
 mod order;
@@ -18,6 +19,7 @@ mod tracing;
 
 pub use fault::{Memory, TraceFault};
 pub use history::{History, Searched};
+pub use laws::{budget_is_reached, no_plan_exists, only_one_search, takes_are_greedy};
 pub use mf_search::{Entry, Maker, Status};
 pub use searching::search;
 pub use tracing::plan_of;
