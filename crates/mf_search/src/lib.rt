@@ -1,13 +1,13 @@
-// A library with one function.
+//! Greedy best-first search by several workers under permits, over any space: the data of a history
+//! and the laws of the search, each a public function with an empty body.
 #![tactic(auto)]
 
-ghost use Rattle.std.specs.Prelude.{◌≡◌};
-ghost use Rattle.mf_search.specs.Echo.{echo_of};
+mod entry;
+mod laws;
+mod maker;
+mod status;
 
-// The `ensures` clause is the contract: what `echo` returns is `echo_of` of its argument, a definition
-// in `specs/Echo.antt`, which a caller's clause can cite too.
-pub fn echo(x: usize) -> usize
-    ensures { result ≡ echo_of x }
-{
-    x
-}
+pub use entry::Entry;
+pub use laws::taken_once;
+pub use maker::Maker;
+pub use status::Status;
