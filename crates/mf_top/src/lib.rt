@@ -1,13 +1,7 @@
-// A library with one function.
+//! The commands of the planner: from words and files to a status and the bytes that are written.
 #![tactic(auto)]
 
-ghost use Rattle.std.specs.Prelude.{◌≡◌};
-ghost use Rattle.mf_top.specs.Echo.{echo_of};
+mod request;
+mod words;
 
-// The `ensures` clause is the contract: what `echo` returns is `echo_of` of its argument, a definition
-// in `specs/Echo.antt`, which a caller's clause can cite too.
-pub fn echo(x: usize) -> usize
-    ensures { result ≡ echo_of x }
-{
-    x
-}
+pub use request::Request;
