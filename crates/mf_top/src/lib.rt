@@ -1,7 +1,10 @@
 //! The commands of the planner: from words and files to a status and the bytes that are written.
 #![tactic(auto)]
 
+mod outcome;
 mod request;
+mod texts;
 mod words;
 
+pub use outcome::Outcome;
 pub use request::Request;
