@@ -1,10 +1,13 @@
 //! The commands of the planner: from words and files to a status and the bytes that are written.
 #![tactic(auto)]
 
+mod deliver;
+mod load;
 mod outcome;
 mod request;
 mod texts;
 mod words;
 
+pub use load::GREATEST_LENGTH;
 pub use outcome::Outcome;
 pub use request::Request;
