@@ -33,6 +33,6 @@ LoadsFile held name before after (Err (TooLong n)) = (n ≡ name) × IsTooLong h
 LoadsFile held name before after (Err OutOfMemory) = after ≡ before
 LoadsFile held name before after (Err WordsRefused) = ⊥
 LoadsFile held name before after (Err (NotBuilt n)) = ⊥
-LoadsFile held name before after (Err (PlanFound task steps)) = ⊥
+LoadsFile held name before after (Err (PlanFound text)) = ⊥
 LoadsFile held name before after (Err NoPlan) = ⊥
 LoadsFile held name before after (Err (BudgetReached n)) = ⊥

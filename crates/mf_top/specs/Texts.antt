@@ -11,7 +11,7 @@ use Rattle.mf_top.specs.declared.outcome.Outcome.{Outcome}
 use Rattle.mf_top.specs.declared.outcome.Outcome.TheVariants.{WordsRefused, CannotRead, TooLong, NotBuilt, PlanFound, NoPlan, BudgetReached, OutOfMemory}
 
 abbrev pub status_of : Outcome → ℕ
-status_of (PlanFound task steps) = 0
+status_of (PlanFound text) = 0
 status_of NoPlan = 1
 status_of WordsRefused = 2
 status_of (TooLong name) = 3
@@ -40,7 +40,7 @@ plan_text task steps = flat_map (step_text task) steps ++ codes "; steps " ++ de
 
 -- what is written to out
 abbrev pub out_text : Outcome → List ℕ
-out_text (PlanFound task steps) = plan_text task steps
+out_text (PlanFound text) = text
 out_text NoPlan = codes "no plan\n"
 out_text (BudgetReached expansions) = codes "budget reached after " ++ decimal expansions ++ codes " expansions\n"
 out_text WordsRefused = []
@@ -55,7 +55,7 @@ err_text WordsRefused = codes "words refused\n"
 err_text (TooLong name) = name ++ codes ": longer than 16777216 bytes\n"
 err_text (NotBuilt name) = name ++ codes ": not built\n"
 err_text (CannotRead name) = codes "cannot read " ++ name ++ codes "\n"
-err_text (PlanFound task steps) = []
+err_text (PlanFound text) = []
 err_text NoPlan = []
 err_text (BudgetReached expansions) = []
 err_text OutOfMemory = []

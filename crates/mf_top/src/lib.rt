@@ -1,10 +1,12 @@
 //! The commands of the planner: from words and files to a status and the bytes that are written.
 #![tactic(auto)]
 
+mod decide;
 mod deliver;
 mod load;
 mod outcome;
 mod request;
+mod stub;
 mod texts;
 mod words;
 

@@ -1,7 +1,7 @@
 ghost use Rattle.std.specs.Prelude.{◌≡◌};
 ghost use Rattle.mf_top.specs.Texts.{status_of};
 
-use mf_model::{Instance, List, Text, TypedTask};
+use mf_model::Text;
 
 /// How a call ended, before anything is written.
 #[derive(Debug, Drop)]
@@ -14,11 +14,8 @@ pub enum Outcome {
     TooLong { name: Text },
     /// The file of this name is not of the built form.
     NotBuilt { name: Text },
-    /// The steps are a plan of the task.
-    PlanFound {
-        task: TypedTask,
-        steps: List<Instance>,
-    },
+    /// A plan was found, and this is its text.
+    PlanFound { text: Text },
     /// The task has no plan.
     NoPlan,
     /// The search took as many states as the budget allows, and has no answer.

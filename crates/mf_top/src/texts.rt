@@ -70,8 +70,8 @@ fn write_steps(task: &TypedTask, steps: &[Instance], text: &mut Text) -> Result<
     Ok(())
 }
 
-// A line per step, and then their number.
-fn plan_text(alloc: Global, task: &TypedTask, steps: &[Instance]) -> Result<Text, Memory>
+/// A line per step, and then their number.
+pub(crate) fn plan_text(alloc: Global, task: &TypedTask, steps: &[Instance]) -> Result<Text, Memory>
     ensures { IfOk result (λ text. text ≡ plan_text task.now steps.now) }
 {
     let mut text = Text::new(alloc);
@@ -105,7 +105,7 @@ pub(crate) fn out_text(alloc: Global, outcome: &Outcome) -> Result<Text, Memory>
     ensures { IfOk result (λ text. text ≡ out_text outcome.now) }
 {
     match outcome {
-        Outcome::PlanFound { task, steps } => plan_text(alloc, task, steps.as_slice()),
+        Outcome::PlanFound { text } => Ok(text.copy(alloc)?),
         Outcome::NoPlan => Ok(Text::from_slice(alloc, b"no plan\n")?),
         Outcome::BudgetReached { expansions } => budget_text(alloc, *expansions),
         Outcome::WordsRefused
