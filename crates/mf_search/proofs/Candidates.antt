@@ -1,12 +1,11 @@
 -- The tests that the rebuilt run is computed with, against what they say.
-use Rattle.std.proofs.Common.{◌≡◌, ℕ, zero, suc, ◌+◌, ◌<◌, ◌≤◌, ◌⊎◌, ◌++◌, ◌&&◌, ◌||◌, Bool, true, false, cond, not, eqb, ltb, List, [], ◌∷◌, Option, Some, None, Contains, length, refl, sym, ap, ◌∙◌, inl, inr, ⊎_elim, subst, arith}
-use Rattle.std.proofs.lemmas.Bool.{false≢true, true≢false, or_cases, or_left, or_right, and_parts, and_from, not-true, not_from_false, false_from_ne_true, eqb-true, eq-eqb, ltb-true, ltb-false, lt-ltb, cases_lt, both_ways}
+use Rattle.std.proofs.Common.{◌≡◌, ℕ, zero, suc, ◌+◌, ◌<◌, ◌≤◌, ◌⊎◌, ◌++◌, ◌&&◌, Bool, true, false, cond, not, eqb, ltb, List, [], ◌∷◌, Option, Some, None, Contains, length, refl, sym, ap, ◌∙◌, inl, inr, ⊎_elim, subst, arith}
+use Rattle.std.proofs.lemmas.Bool.{false≢true, or_cases, or_left, or_right, and_parts, and_from, not-true, not_from_false, false_from_ne_true, eqb-true, eq-eqb, ltb-true, ltb-false, lt-ltb, cases_lt, both_ways}
 use Rattle.std.proofs.lemmas.List.Elements.{Contains-append_left, Contains-push}
-use Rattle.std.proofs.lemmas.Option.{same_Some}
 use Rattle.mf_search.specs.Space.{Child, Space, children_of, Leads}
 use Rattle.mf_search.specs.World.{Opened, at}
-use Rattle.mf_search.specs.Rebuilt.{member, listed_in, reached, candidate, better, best_below, appended, completed}
-use Rattle.mf_search.proofs.Members.{not_in_nil, in_cons, in_first, in_later, no_some}
+use Rattle.mf_search.specs.Rebuilt.{member, listed_in, reached, candidate, better, best_below, completed}
+use Rattle.mf_search.proofs.Members.{not_in_nil, in_cons, in_first, in_later}
 
 pub member_in : (c : ℕ) (run : List ℕ) → member c run ≡ true → Contains run c
 member_in c [] e = absurd (false≢true e)
@@ -91,8 +90,8 @@ is_candidate sp os run v c h =
     and_from (ltb (at sp os c).value v) (not (member c run) && reached sp os (at sp os c).state run)
     (lt-ltb (at sp os c).value v h.less)
     (and_from (not (member c run)) (reached sp os (at sp os c).state run)
-      (not_from_false (member c run) (false_from_ne_true (member c run) (λ e. h.outside (member_in c run e))))
-      (is_reached sp os (at sp os c).state run h.reached.from h.reached.in_run h.reached.leads))
+    (not_from_false (member c run) (false_from_ne_true (member c run) (λ e. h.outside (member_in c run e))))
+    (is_reached sp os (at sp os c).state run h.reached.from h.reached.in_run h.reached.leads))
 
 -- The number c is the best candidate among the first n.
 pub record IsBest {S : Type 0} (sp : Space S) (os : List (Opened S)) (run : List ℕ) (v : ℕ) (n : ℕ) (c : ℕ) : Type 0 where
@@ -120,6 +119,7 @@ best_more {S} sp os run v n true (Some c) e h = go (ltb (at sp os n).value (at s
   where
     last : (m : ℕ) → (at sp os m).value ≤ (at sp os n).value → ((k : ℕ) → k < n → IsCandidate sp os run v k → (at sp os m).value ≤ (at sp os k).value) → (k : ℕ) → k < suc n → IsCandidate sp os run v k → (at sp os m).value ≤ (at sp os k).value
     last m at_n below k low is = ⊎_elim (λ l. below k l is) (λ l. let same : n ≡ k = omega arith in subst (λ t. (at sp os m).value ≤ (at sp os t).value) same at_n) (cases_lt k n)
+
     go : (t : Bool) → ltb (at sp os n).value (at sp os c).value ≡ t → IsBest sp os run v (suc n) (cond t n c)
     go true t = let less = ltb-true (at sp os n).value (at sp os c).value t in record {
       in_range = omega arith;
@@ -174,10 +174,10 @@ free_less run c (suc n) h out = go (cases_lt c n) (free_less run c n)
     go : (c < n) ⊎ (n ≤ c) → (c < n → (Contains run c → ⊥) → free (run ++ c ∷ []) n < free run n) → cond (member n (run ++ c ∷ [])) 0 1 + free (run ++ c ∷ []) n < cond (member n run) 0 1 + free run n
     go (inl l) ih = let k = ih l out in let s = free_step run c n (member n run) (member n (run ++ c ∷ [])) refl refl in omega arith
     go (inr l) ih = let same : c ≡ n = omega arith in
-      let new : member n (run ++ c ∷ []) ≡ true = in_member n (run ++ c ∷ []) (subst (λ t. Contains (run ++ c ∷ []) t) same (Contains-push run c)) in
-      let old : member n run ≡ false = false_from_ne_true (member n run) (λ e. out (subst (λ t. Contains run t) (sym same) (member_in n run e))) in
-      let s = free_push run c n in
-      rw (new, old) (omega arith)
+        let new : member n (run ++ c ∷ []) ≡ true = in_member n (run ++ c ∷ []) (subst (λ t. Contains (run ++ c ∷ []) t) same (Contains-push run c)) in
+        let old : member n run ≡ false = false_from_ne_true (member n run) (λ e. out (subst (λ t. Contains run t) (sym same) (member_in n run e))) in
+        let s = free_push run c n in
+        rw (new, old) (omega arith)
 
 -- Where there is no candidate the run stays as it is.
 pub completed_stays : {S : Type 0} (sp : Space S) (os : List (Opened S)) (v fuel : ℕ) (run : List ℕ) → best_below sp os run v (length os) ≡ None → completed sp os v fuel run ≡ run

@@ -1,5 +1,5 @@
 -- What stands in a list: by cases on the list, and in the list of a function's results.
-use Rattle.std.proofs.Common.{◌≡◌, Option, Some, None, ℕ, zero, suc, ◌<◌, ◌⊎◌, ◌++◌, List, [], ◌∷◌, Contains, length, get_or, map, refl, inl, inr, ⊎_elim, subst, arith}
+use Rattle.std.proofs.Common.{◌≡◌, Some, None, ℕ, zero, suc, ◌<◌, ◌⊎◌, List, [], ◌∷◌, Contains, length, get_or, map, refl, inl, inr, ⊎_elim, subst, arith}
 
 pub not_in_nil : {X : Type 0} (x : X) → Contains [] x → ⊥
 not_in_nil x c = let h = c.1 in omega arith

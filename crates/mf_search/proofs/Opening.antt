@@ -1,8 +1,7 @@
 -- What opening a successor list does to the opened states, one child at a time.
-use Rattle.std.proofs.Common.{◌≡◌, ℕ, zero, suc, ◌+◌, ◌<◌, ◌≤◌, ◌⊎◌, ◌++◌, Bool, true, false, List, [], ◌∷◌, Option, Some, None, Contains, length, get_or, refl, sym, ap, ◌∙◌, inl, inr, ⊎_elim, subst, arith, le_refl}
+use Rattle.std.proofs.Common.{◌≡◌, ℕ, zero, suc, ◌<◌, ◌≤◌, ◌⊎◌, ◌++◌, Bool, true, false, List, [], ◌∷◌, Option, Some, None, Contains, length, refl, sym, ap, ◌∙◌, inl, inr, ⊎_elim, subst, arith, le_refl}
 use Rattle.std.proofs.lemmas.Bool.{false≢true, or_cases, or_left, or_right, cases_lt}
 use Rattle.std.proofs.lemmas.List.{length_push, get_or_push, get_or_append_left}
-use Rattle.mf_search.specs.declared.maker.Maker.{Maker}
 use Rattle.mf_search.specs.declared.maker.Maker.TheVariants.{Start, Step}
 use Rattle.mf_search.specs.Space.{Child, Space}
 use Rattle.mf_search.specs.World.{Opened, WasOpened, at, known, pushed, open_child, open_all}
@@ -79,8 +78,10 @@ apart_push {S} sp os o apart new i j hi hj e = go (cases_lt i (length os)) (case
   where
     old : (k : ℕ) → k < length os → (at sp (os ++ o ∷ []) k).state ≡ (at sp os k).state
     old k h = ap (λ (t : Opened S). t.state) ((extends_push sp os o).same k h)
+
     last : (k : ℕ) → length os ≡ k → (at sp (os ++ o ∷ []) k).state ≡ o.state
     last k h = ap (λ (t : Opened S). t.state) (get_or_push os o (record { state = sp.start; value = 0; maker = Start }) k h)
+
     go : (i < length os) ⊎ (length os ≤ i) → (j < length os) ⊎ (length os ≤ j) → i ≡ j
     go (inl a) (inl b) = apart i j a b (sym (old i a) ∙ e ∙ old j b)
     go (inl a) (inr b) = absurd (new (i, a, sym (old i a) ∙ e ∙ last j (let s = length_push os o in omega arith)))
@@ -92,6 +93,7 @@ valued_push {S} sp os o valued new i h = go (cases_lt i (length os))
   where
     HasValue : Opened S → Type 0
     HasValue t = sp.value t.state ≡ Some t.value
+
     go : (i < length os) ⊎ (length os ≤ i) → sp.value (at sp (os ++ o ∷ []) i).state ≡ Some (at sp (os ++ o ∷ []) i).value
     go (inl a) = rw ((extends_push sp os o).same i a) (valued i a)
     go (inr a) = let size = length_push os o in let e : length os ≡ i = omega arith in rw (get_or_push os o (record { state = sp.start; value = 0; maker = Start }) i e) new
@@ -117,7 +119,7 @@ opens_pushed {S} sp p c os false (Some u) e v = record {
   apart = λ h. apart_push sp os new h (λ w. false≢true (sym e ∙ opened_known sp os c.state w));
   valued = λ h. valued_push sp os new h v;
   made = λ i low high. let is : at sp (os ++ new ∷ []) i ≡ new = get_or_push os new _ i (let l = length_push os new in omega arith) in
-    record { child = c; stands = in_first c []; state_is = sym (ap (λ (o : Opened S). o.state) is); maker_is = ap (λ (o : Opened S). o.maker) is };
+      record { child = c; stands = in_first c []; state_is = sym (ap (λ (o : Opened S). o.state) is); maker_is = ap (λ (o : Opened S). o.maker) is };
   all = λ d t h k. (length os, (let l = length_push os new in omega arith), ap (λ (o : Opened S). o.state) (get_or_push os new _ (length os) refl) ∙ ap (λ (x : Child S). x.state) (only c d h));
 }
   where

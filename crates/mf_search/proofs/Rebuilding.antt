@@ -1,22 +1,15 @@
 -- The rebuilt run of each take is a greedy run: the induction over the takes.
-use Rattle.std.proofs.Common.{◌≡◌, ◌≢◌, ℕ, zero, suc, ◌+◌, ◌<◌, ◌≤◌, ◌⊎◌, ◌++◌, Bool, true, false, eqb, List, [], ◌∷◌, Option, Some, None, Contains, length, map, refl, sym, ap, ◌∙◌, inl, inr, ⊎_elim, subst, arith}
-use Rattle.std.proofs.lemmas.Bool.{cases_lt}
-use Rattle.std.proofs.lemmas.List.{map_push}
-use Rattle.std.proofs.lemmas.List.Elements.{Contains-append_left, Contains-push, Contains-push_cases}
+use Rattle.std.proofs.Common.{◌≡◌, ℕ, ◌<◌, ◌⊎◌, List, Some, Contains, length, sym, ap, ◌∙◌, inl, inr, ⊎_elim, subst, arith}
 use Rattle.std.proofs.lemmas.Option.{same_Some}
-use Rattle.mf_search.specs.declared.entry.Entry.{Entry}
-use Rattle.mf_search.specs.declared.entry.Entry.TheVariants.{Take, Done, Wide}
-use Rattle.mf_search.specs.declared.maker.Maker.{Maker}
-use Rattle.mf_search.specs.declared.maker.Maker.TheVariants.{Start, Step}
-use Rattle.mf_search.specs.Space.{Child, Space, children_of, IsListed, Leads}
-use Rattle.mf_search.specs.World.{Opened, Going, World, WasOpened, at, begin, took, next, after, IsOpen, KeyAtMost, MayTake, May, LegalFrom, Legal, world}
-use Rattle.mf_search.specs.Greedy.{OpenAfter, Follows, Expanded, AllExpanded, Greedy, IsGreedyRunTo}
-use Rattle.mf_search.specs.Rebuilt.{best_below, appended, completed, parent_of, with_parent, run_before, rebuilt, states_of}
-use Rattle.mf_search.proofs.Members.{not_in_nil, in_map, from_map, no_some}
-use Rattle.mf_search.proofs.Opening.{Extends, extends_refl, extends_trans, Apart, Valued, MadeBy}
-use Rattle.mf_search.proofs.Sound.{IsDone, IsStart, MadeByDone, Sound, Grows, next_grows, next_sound, begin_sound, after_grows, after_sound, legal_sound}
-use Rattle.mf_search.proofs.Candidates.{in_or_out, IsReached, IsCandidate, IsBest, BestIs, best_is, free, free_le, free_pos, free_less, completed_stays}
-use Rattle.mf_search.proofs.Runs.{greedy_nil, greedy_push, starts}
+use Rattle.mf_search.specs.Space.{Space, children_of, Leads}
+use Rattle.mf_search.specs.World.{Opened, World, WasOpened, at, MayTake}
+use Rattle.mf_search.specs.Greedy.{OpenAfter, Expanded, AllExpanded}
+use Rattle.mf_search.specs.Rebuilt.{states_of}
+use Rattle.mf_search.proofs.Members.{in_map, from_map}
+use Rattle.mf_search.proofs.Opening.{Extends, extends_refl, extends_trans, Apart, Valued}
+use Rattle.mf_search.proofs.Sound.{IsDone, Sound, Grows}
+use Rattle.mf_search.proofs.KeyOrder.{key_value}
+use Rattle.mf_search.proofs.Candidates.{in_or_out}
 
 -- The opened states of a world are the first ones of the list os, which is that of a later world.
 pub record Within {S : Type 0} (sp : Space S) (w : World S) (os : List (Opened S)) : Type 0 where
@@ -82,22 +75,19 @@ found {S} sp w os run y u s within done open_after = named (known open_after.rea
     known : (y ≡ sp.start) ⊎ ((x : S) × Contains (states_of sp os run) x × Leads sp x y) → WasOpened sp w.opened y
     known (inl e) = subst (WasOpened sp w.opened) (sym e) (s.start_opened u (ap sp.value (sym e) ∙ open_after.valued))
     known (inr r) = let m = from_map (λ i. (at sp os i).state) run r.0 r.1 in
-      child_opened sp w os m.0 y u s within (done m.0 m.1) (subst (λ x. Leads sp x y) (sym m.2) r.2) open_after.valued
+        child_opened sp w os m.0 y u s within (done m.0 m.1) (subst (λ x. Leads sp x y) (sym m.2) r.2) open_after.valued
+
     named : WasOpened sp w.opened y → IsFound sp w os run y u
     named k = let same = within.extends.same k.0 k.1 in
-      let here : (at sp os k.0).state ≡ y = ap (λ (o : Opened S). o.state) same ∙ k.2 in
-      let low : k.0 < length os = (let a = k.1 in let b = within.extends.longer in omega arith) in
-      record {
-        number = k.0;
-        opened = k.1;
-        state_is = here;
-        value_is = same_Some (at sp os k.0).value u (sym (within.valued k.0 low) ∙ ap sp.value here ∙ open_after.valued);
-        outside = λ h. open_after.fresh (subst (λ t. Contains (states_of sp os run) t) here (state_in sp os run k.0 h));
-      }
-
--- The key of the first is at most that of the second, so its value is.
-pub key_value : {S : Type 0} (a : Opened S) (i : ℕ) (b : Opened S) (j : ℕ) → KeyAtMost a i b j → a.value ≤ b.value
-key_value a i b j h = grind arith
+        let here : (at sp os k.0).state ≡ y = ap (λ (o : Opened S). o.state) same ∙ k.2 in
+        let low : k.0 < length os = (let a = k.1 in let b = within.extends.longer in omega arith) in
+        record {
+          number = k.0;
+          opened = k.1;
+          state_is = here;
+          value_is = same_Some (at sp os k.0).value u (sym (within.valued k.0 low) ∙ ap sp.value here ∙ open_after.valued);
+          outside = λ h. open_after.fresh (subst (λ t. Contains (states_of sp os run) t) here (state_in sp os run k.0 h));
+        }
 
 -- Where a state may be taken, each opened state of less value is done.
 pub done_below : {S : Type 0} (sp : Space S) (budget workers : ℕ) (w : World S) (worker i c : ℕ) → Sound sp w → MayTake sp budget workers w worker i → c < length w.opened → (at sp w.opened c).value < (at sp w.opened i).value → IsDone sp w c

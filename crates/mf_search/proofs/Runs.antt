@@ -1,10 +1,9 @@
 -- Greedy runs over states: one more member, and where a run begins.
-use Rattle.std.proofs.Common.{◌≡◌, ℕ, zero, suc, ◌+◌, ◌<◌, ◌≤◌, ◌⊎◌, ◌++◌, List, [], ◌∷◌, Option, Some, Contains, length, get_or, take, refl, sym, inl, inr, ⊎_elim, subst, arith}
+use Rattle.std.proofs.Common.{◌≡◌, ℕ, ◌<◌, ◌≤◌, ◌⊎◌, ◌++◌, List, [], ◌∷◌, Contains, length, get_or, take, inl, inr, subst, arith}
 use Rattle.std.proofs.lemmas.Bool.{cases_lt}
 use Rattle.std.proofs.lemmas.List.{length_push, get_or_push, get_or_append_left, take-append-le, take_at}
-use Rattle.std.proofs.lemmas.List.Elements.{Contains-push_cases}
 use Rattle.mf_search.specs.Space.{Space, Leads}
-use Rattle.mf_search.specs.Greedy.{OpenAfter, Follows, Expanded, AllExpanded, Greedy}
+use Rattle.mf_search.specs.Greedy.{Follows, AllExpanded, Greedy}
 use Rattle.mf_search.proofs.Members.{not_in_nil, in_first}
 
 pub greedy_nil : {S : Type 0} (sp : Space S) → Greedy sp []

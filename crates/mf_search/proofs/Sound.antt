@@ -1,5 +1,5 @@
 -- What holds in the world of each legal history: one record, kept by each entry that may come.
-use Rattle.std.proofs.Common.{◌≡◌, ◌≢◌, ℕ, zero, suc, ◌+◌, ◌<◌, ◌≤◌, ◌⊎◌, ◌++◌, Bool, true, false, cond, eqb, List, [], ◌∷◌, Option, Some, None, Contains, AllPairs, length, get_or, map, refl, sym, ap, ◌∙◌, inl, inr, ⊎_elim, subst, arith, le_refl}
+use Rattle.std.proofs.Common.{◌≡◌, ◌≢◌, ℕ, zero, suc, ◌<◌, ◌≤◌, ◌⊎◌, ◌++◌, Bool, true, false, cond, eqb, List, [], ◌∷◌, Option, Some, None, Contains, length, get_or, map, refl, sym, ap, ◌∙◌, inl, inr, ⊎_elim, subst, arith}
 use Rattle.std.proofs.lemmas.Bool.{eqb-true, eqb-false, eq-eqb, ne_eqb, cases_eq, cases_lt}
 use Rattle.std.proofs.lemmas.List.{get_or-map, length-map}
 use Rattle.std.proofs.lemmas.List.Elements.{Contains-append_left, Contains-push, Contains-push_cases, Contains-get_or}
@@ -7,9 +7,9 @@ use Rattle.std.proofs.lemmas.List.Quantifiers.{all_pairs_push}
 use Rattle.std.proofs.lemmas.Option.{same_Some}
 use Rattle.mf_search.specs.declared.entry.Entry.{Entry}
 use Rattle.mf_search.specs.declared.entry.Entry.TheVariants.{Take, Done, Wide}
-use Rattle.mf_search.specs.declared.maker.Maker.TheVariants.{Start, Step}
-use Rattle.mf_search.specs.Space.{Child, Grown, LeadsOut, Listed, Space, children_of, IsListed}
-use Rattle.mf_search.specs.World.{Opened, Ending, Going, AtGoal, AtWide, World, AllDifferent, WasOpened, at, opened_first, begin, open_all, put, took, finished, next, after, IsOpen, MayTake, MayDone, MayWide, May, LegalFrom, Legal, world}
+use Rattle.mf_search.specs.declared.maker.Maker.TheVariants.{Start}
+use Rattle.mf_search.specs.Space.{Child, Space, children_of, IsListed}
+use Rattle.mf_search.specs.World.{Opened, Going, AtGoal, AtWide, World, AllDifferent, WasOpened, at, opened_first, begin, open_all, put, took, finished, next, after, MayTake, MayDone, MayWide, May, LegalFrom, Legal, world}
 use Rattle.mf_search.proofs.Members.{not_in_nil, no_some}
 use Rattle.mf_search.proofs.Opening.{Extends, extends_refl, extends_trans, extends_opened, Apart, Valued, MadeBy, Opens, opens_all}
 
@@ -58,24 +58,24 @@ pub grows_trans : {S : Type 0} (sp : Space S) (w z y : World S) → Grows sp w z
 grows_trans sp w z y a b = record { extends = extends_trans sp w.opened z.opened y.opened a.extends b.extends; taken = λ i h. b.taken i (a.taken i h); done = λ i h. b.done i (a.done i h) }
 
 -- What each worker has in expansion after one entry of it.
-put_some : (busy : ℕ → Option ℕ) (worker j v i : ℕ) → put busy worker (Some j) v ≡ Some i → ((v ≡ worker) × (i ≡ j)) ⊎ ((v ≡ worker → ⊥) × (busy v ≡ Some i))
+pub put_some : (busy : ℕ → Option ℕ) (worker j v i : ℕ) → put busy worker (Some j) v ≡ Some i → ((v ≡ worker) × (i ≡ j)) ⊎ ((v ≡ worker → ⊥) × (busy v ≡ Some i))
 put_some busy worker j v i e = go (eqb v worker) refl e
   where
     go : (b : Bool) → eqb v worker ≡ b → cond b (Some j) (busy v) ≡ Some i → ((v ≡ worker) × (i ≡ j)) ⊎ ((v ≡ worker → ⊥) × (busy v ≡ Some i))
     go true t h = inl (eqb-true v worker t, sym (same_Some j i h))
     go false t h = inr (eqb-false v worker t, h)
 
-put_none : (busy : ℕ → Option ℕ) (worker v i : ℕ) → put busy worker None v ≡ Some i → (v ≡ worker → ⊥) × (busy v ≡ Some i)
+pub put_none : (busy : ℕ → Option ℕ) (worker v i : ℕ) → put busy worker None v ≡ Some i → (v ≡ worker → ⊥) × (busy v ≡ Some i)
 put_none busy worker v i e = go (eqb v worker) refl e
   where
     go : (b : Bool) → eqb v worker ≡ b → cond b None (busy v) ≡ Some i → (v ≡ worker → ⊥) × (busy v ≡ Some i)
     go true t h = absurd (no_some i h)
     go false t h = (eqb-false v worker t, h)
 
-put_same : (busy : ℕ → Option ℕ) (worker : ℕ) (held : Option ℕ) → put busy worker held worker ≡ held
+pub put_same : (busy : ℕ → Option ℕ) (worker : ℕ) (held : Option ℕ) → put busy worker held worker ≡ held
 put_same busy worker held = rw (eq-eqb worker worker refl) refl
 
-put_other : (busy : ℕ → Option ℕ) (worker : ℕ) (held : Option ℕ) (v : ℕ) → (v ≡ worker → ⊥) → put busy worker held v ≡ busy v
+pub put_other : (busy : ℕ → Option ℕ) (worker : ℕ) (held : Option ℕ) (v : ℕ) → (v ≡ worker → ⊥) → put busy worker held v ≡ busy v
 put_other busy worker held v other = rw (ne_eqb v worker other) refl
 
 -- How a state was made is kept as the world grows.
@@ -148,13 +148,16 @@ sound_busy {S} sp budget workers w worker i s may above = record {
     held : (v k : ℕ) → ((v ≡ worker) × (k ≡ i)) ⊎ ((v ≡ worker → ⊥) × (w.busy v ≡ Some k)) → Contains (w.taken ++ i ∷ []) k
     held v k (inl e) = subst (λ t. Contains (w.taken ++ i ∷ []) t) (sym e.1) (Contains-push w.taken i)
     held v k (inr e) = Contains-append_left w.taken (i ∷ []) k (s.busy_taken v k e.1)
+
     taken_again : (v k : ℕ) → k ≡ i → w.busy v ≡ Some k → ⊥
     taken_again v k e h = may.is_open.1 (subst (λ t. Contains w.taken t) e (s.busy_taken v k h))
+
     alone : (u v k : ℕ) → ((u ≡ worker) × (k ≡ i)) ⊎ ((u ≡ worker → ⊥) × (w.busy u ≡ Some k)) → ((v ≡ worker) × (k ≡ i)) ⊎ ((v ≡ worker → ⊥) × (w.busy v ≡ Some k)) → u ≡ v
     alone u v k (inl a) (inl b) = a.0 ∙ sym b.0
     alone u v k (inl a) (inr b) = absurd (taken_again v k a.1 b.1)
     alone u v k (inr a) (inl b) = absurd (taken_again u k b.1 a.1)
     alone u v k (inr a) (inr b) = s.busy_alone u v k a.1 b.1
+
     back : (k : ℕ) → IsDone sp (took false w worker i) k → IsDone sp w k
     back k d = record {
       taken = ⊎_elim (λ h. h) (λ (e : i ≡ k). absurd (d.at_rest worker (put_same w.busy worker (Some i) ∙ ap (λ t. Some t) e))) (Contains-push_cases w.taken i k d.taken);
@@ -191,34 +194,44 @@ sound_done {S} sp w worker i s may = record {
   where
     cs : List (Child S)
     cs = children_of (sp.grow (at sp w.opened i).state)
+
     news : List (Opened S)
     news = open_all sp i cs w.opened
+
     opens : Opens sp i cs w.opened news
     opens = opens_all sp i cs w.opened
+
     taken : Contains w.taken i
     taken = s.busy_taken worker i may.holds
+
     same : (k : ℕ) → Contains w.taken k → at sp news k ≡ at sp w.opened k
     same k h = opens.extends.same k (s.in_range k h)
+
     grows : Grows sp w (finished sp w worker i)
     grows = grows_done sp w worker i s
+
     done : IsDone sp (finished sp w worker i) i
     done = record {
       taken = taken;
       at_rest = λ v h. let p = put_none w.busy worker v i h in p.0 (s.busy_alone v worker i p.1 may.holds);
       no_goal = rw (same i taken) (s.no_goal may.going i taken);
     }
+
     made : (k : ℕ) → k < length news → (k < length w.opened) ⊎ (length w.opened ≤ k) → IsStart sp news k ⊎ MadeByDone sp (finished sp w worker i) k
     made k h (inl a) = made_grows sp w (finished sp w worker i) k s grows a (s.made k a)
     made k h (inr a) = let low = s.in_range i taken in inr (record { parent = i; lower = omega arith; done = done; entry = rw (same i taken) (opens.made k a h) })
+
     back : (k : ℕ) → IsDone sp (finished sp w worker i) k → (k ≡ i) ⊎ IsDone sp w k
     back k d = ⊎_elim inl (λ other. inr (record {
       taken = d.taken;
       at_rest = λ v h. d.at_rest v (put_other w.busy worker None v (λ (e : v ≡ worker). other (same_Some k i (sym h ∙ ap w.busy e ∙ may.holds))) ∙ h);
       no_goal = rw (← same k d.taken) d.no_goal;
     })) (cases_eq k i)
+
     listed : (k : ℕ) → (k ≡ i) ⊎ IsDone sp w k → IsListed (sp.grow (at sp w.opened k).state)
     listed k (inl e) = rw e may.listed
     listed k (inr d) = s.done_listed k d
+
     opened : (k : ℕ) (c : Child S) (v : ℕ) → Contains (children_of (sp.grow (at sp w.opened k).state)) c → sp.value c.state ≡ Some v → (k ≡ i) ⊎ IsDone sp w k → WasOpened sp news c.state
     opened k c v h e (inl same) = opens.all c v (subst (λ t. Contains (children_of (sp.grow (at sp w.opened t).state)) c) same h) e
     opened k c v h e (inr d) = extends_opened sp w.opened news c.state opens.extends (s.done_opened k c v d h e)
@@ -245,8 +258,10 @@ sound_wide {S} sp w worker i n s may = record {
   where
     z : World S
     z = record w { ending = AtWide i n }
+
     grows : Grows sp w z
     grows = grows_wide sp w i n
+
     back : (k : ℕ) → IsDone sp z k → IsDone sp w k
     back k d = record { taken = d.taken; at_rest = d.at_rest; no_goal = d.no_goal }
 
@@ -289,14 +304,17 @@ sound_first {S} sp value e = record {
     apart : (v : Option ℕ) → Apart sp (opened_first sp v)
     apart None i j hi hj e = absurd (omega arith)
     apart (Some v) i j hi hj e = omega arith
+
     valued : (v : Option ℕ) → sp.value sp.start ≡ v → Valued sp (opened_first sp v)
     valued None e i h = absurd (omega arith)
     valued (Some v) e zero h = e
     valued (Some v) e (suc i) h = absurd (omega arith)
+
     made : (v : Option ℕ) → (i : ℕ) → i < length (opened_first sp v) → IsStart sp (opened_first sp v) i ⊎ MadeByDone sp (record { opened = opened_first sp v; taken = []; busy = λ v. None; ending = Going }) i
     made None i h = absurd (omega arith)
     made (Some v) zero h = inl (record { maker_is = refl; state_is = refl })
     made (Some v) (suc i) h = absurd (omega arith)
+
     opened : (v : Option ℕ) → sp.value sp.start ≡ v → (u : ℕ) → sp.value sp.start ≡ Some u → WasOpened sp (opened_first sp v) sp.start
     opened None e u h = absurd (no_some u (sym e ∙ h))
     opened (Some v) e u h = (0, omega arith, refl)
@@ -320,6 +338,11 @@ apart_states {S} sp os apart i j d low h e = go (length-map os (λ (o : Opened S
   where
     here : (k : ℕ) → k < length os → get_or (map (λ o. o.state) os) k d ≡ (at sp os k).state
     here k l = get_or-map (λ (o : Opened S). o.state) os k (record { state = sp.start; value = 0; maker = Start }) d l
+
     go : length (map (λ (o : Opened S). o.state) os) ≡ length os → ⊥
     go size = let b : j < length os = omega arith in let a : i < length os = omega arith in
-      let same : i ≡ j = apart i j a b (sym (here i a) ∙ e ∙ here j b) in omega arith
+        let same : i ≡ j = apart i j a b (sym (here i a) ∙ e ∙ here j b) in omega arith
+
+-- Number 0 is the start.
+pub first_is_start : {S : Type 0} (sp : Space S) (w : World S) → Sound sp w → 0 < length w.opened → IsStart sp w.opened 0
+first_is_start {S} sp w s low = ⊎_elim (λ (start : IsStart sp w.opened 0). start) (λ (made : MadeByDone sp w 0). let l = made.lower in absurd (omega arith)) (s.made 0 low)

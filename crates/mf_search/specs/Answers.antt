@@ -4,8 +4,9 @@ use Rattle.mf_search.specs.declared.maker.Maker.{Maker}
 use Rattle.mf_search.specs.declared.maker.Maker.TheVariants.{Start, Step}
 use Rattle.mf_search.specs.declared.status.Status.{Status}
 use Rattle.mf_search.specs.declared.status.Status.TheVariants.{Running, Plan, NoPlan, Budget, Width, Halted}
-use Rattle.mf_search.specs.Space.{Child, Space, children_of}
-use Rattle.mf_search.specs.World.{Opened, World, Going, AtGoal, AtWide, IsOpen, at}
+use Rattle.mf_search.specs.Space.{Child, Space, children_of, Leads}
+use Rattle.mf_search.specs.World.{Opened, World, Going, AtGoal, AtWide, WasOpened, IsOpen, at}
+use Rattle.mf_search.specs.Greedy.{Expanded}
 
 -- Nothing is in expansion.
 abbrev pub AllIdle : {S : Type 0} → World S → Type 0
@@ -42,6 +43,13 @@ LeadsToGoal sp x = (instances : List ℕ) × IsPlanFrom sp x instances
 -- No goal is reached from a state of infinite value.
 abbrev pub InfiniteIsDead : {S : Type 0} → Space S → Type 0
 InfiniteIsDead {S} sp = (x : S) → sp.value x ≡ None → LeadsToGoal sp x → ⊥
+
+-- The opened states are closed: the start is one where its value is finite, each of them was expanded and is no goal,
+-- and each state of finite value in one of their successor lists is one.
+pub record IsClosed {S : Type 0} (sp : Space S) (os : List (Opened S)) : Type 0 where
+  pub start : (v : ℕ) → sp.value sp.start ≡ Some v → WasOpened sp os sp.start
+  pub expanded : (x : S) → WasOpened sp os x → Expanded sp x
+  pub onward : (x y : S) (v : ℕ) → WasOpened sp os x → Leads sp x y → sp.value y ≡ Some v → WasOpened sp os y
 
 -- The trace to a state by its maker: that of the parent and then the instance; nothing for the start.
 abbrev pub with_step : (ℕ → List ℕ) → Maker → List ℕ

@@ -3,7 +3,8 @@ use Rattle.std.specs.Prelude.{ℕ, suc, zero, ◌++◌, ◌&&◌, ◌||◌, Bool
 use Rattle.mf_search.specs.declared.maker.Maker.{Maker}
 use Rattle.mf_search.specs.declared.maker.Maker.TheVariants.{Start, Step}
 use Rattle.mf_search.specs.Space.{Child, Space, children_of}
-use Rattle.mf_search.specs.World.{Opened, at}
+use Rattle.mf_search.specs.declared.entry.Entry.{Entry}
+use Rattle.mf_search.specs.World.{Opened, at, world}
 
 -- The number stands in the run.
 abbrev pub member : ℕ → List ℕ → Bool
@@ -65,3 +66,7 @@ rebuilt sp os i = run_before sp os (length os) i ++ i ∷ []
 -- The states of the numbers.
 abbrev pub states_of : {S : Type 0} → Space S → List (Opened S) → List ℕ → List S
 states_of sp os run = map (λ i. (at sp os i).state) run
+
+-- The rebuilt run of the state of number i in a history, as states.
+abbrev pub rebuilt_run : {S : Type 0} → Space S → List Entry → ℕ → List S
+rebuilt_run sp entries i = states_of sp (world sp entries).opened (rebuilt sp (world sp entries).opened i)

@@ -1,5 +1,5 @@
 -- A legal history, and the world that it makes: what is opened, taken and in expansion after its entries.
-use Rattle.std.specs.Prelude.{◌≡◌, ◌≢◌, ℕ, ◌<◌, ◌≤◌, ◌⊎◌, ◌++◌, ◌||◌, Bool, true, false, cond, eqb, List, [], ◌∷◌, Option, Some, None, Contains, AllPairs, length, get_or, map}
+use Rattle.std.specs.Prelude.{◌≡◌, ◌≢◌, ℕ, ◌<◌, ◌≤◌, ◌⊎◌, ◌++◌, ◌||◌, Bool, true, false, cond, eqb, List, [], ◌∷◌, Option, Some, None, Contains, AllPairs, length, get_or, map, filter_map}
 use Rattle.mf_search.specs.declared.entry.Entry.{Entry}
 use Rattle.mf_search.specs.declared.entry.Entry.TheVariants.{Take, Done, Wide}
 use Rattle.mf_search.specs.declared.maker.Maker.{Maker}
@@ -26,9 +26,15 @@ pub record World (S : Type 0) : Type 0 where
   pub busy : ℕ → Option ℕ
   pub ending : Ending
 
--- The states that were opened, in the order of their numbers.
+-- The states that were opened, in the order of their numbers, with their values and makers.
 abbrev pub opened_states : {S : Type 0} → World S → List S
 opened_states w = map (λ o. o.state) w.opened
+
+abbrev pub opened_values : {S : Type 0} → World S → List ℕ
+opened_values w = map (λ o. o.value) w.opened
+
+abbrev pub opened_makers : {S : Type 0} → World S → List Maker
+opened_makers w = map (λ o. o.maker) w.opened
 
 -- The opened state of number i. (Past the end: the start, as a goal. No legal entry names it.)
 abbrev pub at : {S : Type 0} → Space S → List (Opened S) → ℕ → Opened S
@@ -148,9 +154,12 @@ Legal sp budget workers entries = LegalFrom sp budget workers (begin sp) entries
 abbrev pub world : {S : Type 0} → Space S → List Entry → World S
 world sp entries = after sp (begin sp) entries
 
+-- The number of the state that the entry takes.
+abbrev pub taken_by : Entry → Option ℕ
+taken_by (Take worker i) = Some i
+taken_by (Done worker i) = None
+taken_by (Wide worker i n) = None
+
 -- The numbers of the states that the entries take, in order.
 abbrev pub takes : List Entry → List ℕ
-takes [] = []
-takes (Take worker i ∷ entries) = i ∷ takes entries
-takes (Done worker i ∷ entries) = takes entries
-takes (Wide worker i n ∷ entries) = takes entries
+takes entries = filter_map taken_by entries

@@ -1,3 +1,6 @@
+ghost use Rattle.std.specs.Prelude.{◌≡◌};
+ghost use Rattle.mf_search.specs.World.{taken_by};
+
 /// One step of a history, by the worker that makes it. States are numbered from 0 as they are opened.
 #[derive(Clone, Copy, Debug, PartialEq, Eq)]
 pub enum Entry {
@@ -17,4 +20,16 @@ pub enum Entry {
         state: u64,
         instance: u32,
     },
+}
+
+impl Entry {
+    /// The number of the state that the entry takes; none where it takes none.
+    pub fn taken(self) -> Option<u64>
+        ensures { result ≡ taken_by self }
+    {
+        match self {
+            Entry::Take { state, .. } => Some(state),
+            _ => None,
+        }
+    }
 }

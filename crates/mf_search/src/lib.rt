@@ -3,11 +3,17 @@
 #![tactic(auto)]
 
 mod entry;
+mod keys;
 mod laws;
 mod maker;
+mod numbers;
 mod status;
+mod steps;
 
 pub use entry::Entry;
-pub use laws::taken_once;
+pub use keys::keys_are_ordered;
+pub use laws::{answers_are_right, more_workers, one_worker, taken_by_a_greedy_run, taken_once};
 pub use maker::Maker;
+pub use numbers::numbers_are_sound;
 pub use status::Status;
+pub use steps::{one_child_more, one_entry_more, one_parent_more, one_take_more};
