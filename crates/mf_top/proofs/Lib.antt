@@ -1,1 +1,4 @@
+pub mod LoadLemmas
+pub mod RunLemmas
+pub mod SearchLemmas
 pub mod WordLemmas

@@ -39,24 +39,30 @@ pub record IsTaskOfLoads (held : List ℕ → Option (List ℕ)) (domain problem
   pub of_files : IsTaskOfFiles domain_bytes problem_bytes task
   pub plain : IsPlainTask task
 
--- the file of this name is not built, unless memory is wanting
-abbrev pub IsNamedNotBuilt : List ℕ → Outcome → Type 0
-IsNamedNotBuilt name (NotBuilt n) = n ≡ name
-IsNamedNotBuilt name OutOfMemory = Unit {0}
-IsNamedNotBuilt name WordsRefused = ⊥
-IsNamedNotBuilt name (CannotRead n) = ⊥
-IsNamedNotBuilt name (TooLong n) = ⊥
-IsNamedNotBuilt name (PlanFound text) = ⊥
-IsNamedNotBuilt name NoPlan = ⊥
-IsNamedNotBuilt name (BudgetReached expansions) = ⊥
+-- the domain is not of the built form, or else the problem isn't or has no task with it
+abbrev pub IsRefused : (domain problem : List ℕ) → (domain_bytes problem_bytes : List ℕ) → List ℕ → Type 0
+IsRefused domain problem domain_bytes problem_bytes name =
+    ((name ≡ domain) × (IsBuiltDomain domain_bytes → ⊥))
+    ⊎ ((name ≡ problem) × IsBuiltDomain domain_bytes × ((task : TypedTask) → IsTaskOfFiles domain_bytes problem_bytes task → ⊥))
 
--- both files were loaded, but have no task: the domain is not of the built form, or else the problem isn't or has no task with it
+-- what the bytes of the two files say: their task, or which of the names is not built
+abbrev pub ReadsTask : (domain problem : List ℕ) → (domain_bytes problem_bytes : List ℕ) → Result TypedTask Outcome → Type 0
+ReadsTask domain problem domain_bytes problem_bytes (Ok task) = IsTaskOfFiles domain_bytes problem_bytes task × IsPlainTask task
+ReadsTask domain problem domain_bytes problem_bytes (Err (NotBuilt name)) = IsRefused domain problem domain_bytes problem_bytes name
+ReadsTask domain problem domain_bytes problem_bytes (Err OutOfMemory) = Unit {0}
+ReadsTask domain problem domain_bytes problem_bytes (Err WordsRefused) = ⊥
+ReadsTask domain problem domain_bytes problem_bytes (Err (CannotRead name)) = ⊥
+ReadsTask domain problem domain_bytes problem_bytes (Err (TooLong name)) = ⊥
+ReadsTask domain problem domain_bytes problem_bytes (Err (PlanFound text)) = ⊥
+ReadsTask domain problem domain_bytes problem_bytes (Err NoPlan) = ⊥
+ReadsTask domain problem domain_bytes problem_bytes (Err (BudgetReached expansions)) = ⊥
+
+-- both files were loaded, but have no task
 pub record HaveNoTask (held : List ℕ → Option (List ℕ)) (domain problem : List ℕ) (loads : List Loading) (name : List ℕ) : Type 0 where
   pub domain_bytes : List ℕ
   pub problem_bytes : List ℕ
   pub read : AreRead held domain problem loads domain_bytes problem_bytes
-  pub refused : ((name ≡ domain) × (IsBuiltDomain domain_bytes → ⊥))
-    ⊎ ((name ≡ problem) × IsBuiltDomain domain_bytes × ((task : TypedTask) → IsTaskOfFiles domain_bytes problem_bytes task → ⊥))
+  pub refused : IsRefused domain problem domain_bytes problem_bytes name
 
 -- the first file is the one of this name, or it was read and the second is
 abbrev pub FirstOrSecond : (List ℕ → Option (List ℕ)) → (domain problem : List ℕ) → List ℕ → Type 0 → Type 0 → Type 0
@@ -144,13 +150,17 @@ abbrev pub Ends : (List ℕ → Option (List ℕ)) → Option Request → List L
 Ends held (Some (Plan domain problem budget)) loads history outcome = EndsPlan held domain problem budget loads history outcome
 Ends held None loads history outcome = (loads ≡ []) × (history ≡ no_history) × EndsRefused outcome
 
--- A call: it comes to an outcome over its loads, and writes what the outcome says.
+-- What the outcome says is written, whole or up to a fault, and gives the status.
+pub record Concludes (outcome : Outcome) (out_before out_after err_before err_after : Option (List ℕ)) (answer : ℕ) : Type 0 where
+  pub delivered : Result Unit PutFault
+  pub written : WritesBoth (out_text outcome) (err_text outcome) out_before out_after err_before err_after delivered
+  pub status_is : answer ≡ final_status (status_of outcome) delivered
+
+-- A call: it comes to an outcome over its loads, and concludes with it.
 pub record Runs (held : List ℕ → Option (List ℕ)) (request : Option Request) (log_before log_after : List Loading)
     (out_before out_after err_before err_after : Option (List ℕ)) (answer : ℕ) (history : History) : Type 0 where
   pub loads : List Loading
   pub outcome : Outcome
-  pub delivered : Result Unit PutFault
   pub logged : log_after ≡ log_before ++ loads
   pub ends : Ends held request loads history outcome
-  pub written : WritesBoth (out_text outcome) (err_text outcome) out_before out_after err_before err_after delivered
-  pub status_is : answer ≡ final_status (status_of outcome) delivered
+  pub concludes : Concludes outcome out_before out_after err_before err_after answer

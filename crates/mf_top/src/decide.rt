@@ -1,12 +1,14 @@
-ghost use Rattle.std.specs.Prelude.{◌≡◌, ℕ, ◌≤◌, ◌++◌, List};
+ghost use Rattle.std.specs.Prelude.{◌≡◌, ℕ, ◌≤◌, ◌⊎◌, ◌++◌, List, Some};
 ghost use Rattle.std.specs.Str.{IsUtf8};
 ghost use Rattle.mf_io.specs.declared.folder.Loading.{Loading};
 ghost use Rattle.mf_model.specs.Plain.{IsPlainTask};
 ghost use Rattle.mf_plain.specs.Searches.{IsSearched};
 ghost use Rattle.mf_search.specs.declared.status.Status.TheVariants as status;
-ghost use Rattle.mf_top.specs.Outcome.{no_history, LoadsTask, EndsSearch, EndsPlan, IsNamedNotBuilt, GivesPlan};
+ghost use Rattle.mf_top.specs.declared.outcome.Outcome.TheVariants.{NotBuilt, OutOfMemory};
+ghost use Rattle.mf_top.specs.Words.{IsRequest};
+ghost use Rattle.mf_top.specs.Outcome.{no_history, LoadsTask, EndsSearch, Ends, EndsPlan, ReadsTask, GivesPlan};
 
-use crate::Outcome;
+use crate::{Outcome, Request};
 use crate::load::load_file;
 use crate::stub::{BuiltFault, read_built};
 use crate::texts::plan_text;
@@ -34,12 +36,33 @@ pub(crate) fn no_history(alloc: Global) -> History
     }
 }
 
+// The file of this name is not built, unless memory is wanting.
 fn not_built(alloc: Global, name: &Text) -> Outcome
-    ensures { IsNamedNotBuilt name.now result }
+    ensures { (result ≡ NotBuilt name.now) ⊎ (result ≡ OutOfMemory) }
 {
     match name.copy(alloc) {
         Ok(name) => Outcome::NotBuilt { name },
         Err(_) => Outcome::OutOfMemory,
+    }
+}
+
+// The task of the bytes of two files, or the outcome that ends the call.
+fn read_task(
+    alloc: Global,
+    domain: &Text,
+    problem: &Text,
+    domain_bytes: &[u8],
+    problem_bytes: &[u8],
+) -> Result<TypedTask, Outcome>
+    ensures { ReadsTask domain.now problem.now domain_bytes.now problem_bytes.now result }
+{
+    match read_built(alloc, domain_bytes, problem_bytes) {
+        Ok(task) => Ok(task),
+        Err(BuiltFault::NotBuilt { file }) => match file {
+            FileKind::DomainFile => Err(not_built(alloc, domain)),
+            FileKind::ProblemFile => Err(not_built(alloc, problem)),
+        },
+        Err(BuiltFault::Memory) => Err(Outcome::OutOfMemory),
     }
 }
 
@@ -56,16 +79,13 @@ fn load_task<F: Folder>(
 {
     let domain_bytes = load_file(alloc, domain, files)?;
     let problem_bytes = load_file(alloc, problem, files)?;
-    match read_built(alloc, domain_bytes.as_slice(), problem_bytes.as_slice()) {
-        Ok(task) => Ok(task),
-        Err(BuiltFault::NotBuilt {
-            file: FileKind::DomainFile,
-        }) => Err(not_built(alloc, domain)),
-        Err(BuiltFault::NotBuilt {
-            file: FileKind::ProblemFile,
-        }) => Err(not_built(alloc, problem)),
-        Err(BuiltFault::Memory) => Err(Outcome::OutOfMemory),
-    }
+    read_task(
+        alloc,
+        domain,
+        problem,
+        domain_bytes.as_slice(),
+        problem_bytes.as_slice(),
+    )
 }
 
 // The plan of a search that took a goal.
@@ -117,8 +137,8 @@ fn solve(alloc: Global, task: &TypedTask, budget: u64) -> Decided
     }
 }
 
-/// Loads the two files, reads their task and searches for a plan.
-pub(crate) fn decide<F: Folder>(
+// Loads the two files, reads their task and searches for a plan.
+fn decide_plan<F: Folder>(
     alloc: Global,
     domain: &Text,
     problem: &Text,
@@ -137,5 +157,20 @@ pub(crate) fn decide<F: Folder>(
             outcome,
             history: no_history(alloc),
         },
+    }
+}
+
+/// What the request comes to, before anything is written.
+pub(crate) fn decide<F: Folder>(alloc: Global, request: &Request, files: &mut F) -> Decided
+    requires { IsRequest request.now }
+    ensures { (loads : List Loading) × (F.log files.new ≡ F.log files.old ++ loads)
+        × Ends (F.held files.old) (Some request.now) loads result.history result.outcome }
+{
+    match request {
+        Request::Plan {
+            domain,
+            problem,
+            budget,
+        } => decide_plan(alloc, domain, problem, *budget, files),
     }
 }

@@ -1,11 +1,13 @@
 //! The commands of the planner: from words and files to a status and the bytes that are written.
 #![tactic(auto)]
 
+mod command;
 mod decide;
 mod deliver;
 mod load;
 mod outcome;
 mod request;
+
 mod stub;
 mod texts;
 mod words;
@@ -13,3 +15,4 @@ mod words;
 pub use load::GREATEST_LENGTH;
 pub use outcome::Outcome;
 pub use request::Request;
+pub use command::{Ended, plan_one, run};

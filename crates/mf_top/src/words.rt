@@ -1,6 +1,6 @@
-ghost use Rattle.std.specs.Prelude.{◌≡◌, map, IfOk, string_bytes};
+ghost use Rattle.std.specs.Prelude.{◌≡◌, ◌≤◌, map, IfOk, IfSome, string_bytes};
 ghost use Rattle.mf_top.specs.declared.request.Request.TheVariants.{Plan};
-ghost use Rattle.mf_top.specs.Words.{budget_of, request_of, asks_goals};
+ghost use Rattle.mf_top.specs.Words.{budget_of, request_of, asks_goals, greatest_budget, IsRequest};
 
 use crate::Request;
 use mf_model::Text;
@@ -11,7 +11,8 @@ const GREATEST_BUDGET: u64 = 1_000_000_000_000;
 
 // A budget of 1 to 20 decimal digits, if it lies in its range.
 pub(crate) fn read_budget(word: &[u8]) -> Option<u64>
-    ensures { result ≡ budget_of word.now }
+    ensures value { result ≡ budget_of word.now }
+    ensures range { IfSome result (λ budget. (1 ≤ budget) × (budget ≤ greatest_budget)) }
 {
     if word.is_empty() || word.len() > 20 {
         return None;
@@ -42,18 +43,21 @@ fn plan_within(
     problem: &String,
     budget: u64,
 ) -> Result<Option<Request>, AllocError>
-    ensures { IfOk result (λ request. request ≡ Some (Plan (string_bytes domain.now) (string_bytes problem.now) budget)) }
+    requires { (1 ≤ budget) × (budget ≤ greatest_budget) }
+    ensures value { IfOk result (λ request. request ≡ Some (Plan (string_bytes domain.now) (string_bytes problem.now) budget)) }
+    ensures valid { IfOk result (λ request. IfSome request IsRequest) }
 {
     Ok(Some(Request::Plan {
-        domain: Text::from_slice(alloc, domain.as_bytes())?,
-        problem: Text::from_slice(alloc, problem.as_bytes())?,
+        domain: Text::from_slice(alloc, domain.as_str().as_bytes())?,
+        problem: Text::from_slice(alloc, problem.as_str().as_bytes())?,
         budget,
     }))
 }
 
 // What the words ask for, if they keep the rule.
 pub(crate) fn read_words(alloc: Global, words: &[String]) -> Result<Option<Request>, AllocError>
-    ensures { IfOk result (λ request. request ≡ request_of (map string_bytes words.now)) }
+    ensures value { IfOk result (λ request. request ≡ request_of (map string_bytes words.now)) }
+    ensures valid { IfOk result (λ request. IfSome request IsRequest) }
 {
     match words {
         [command, domain, problem, option, value]

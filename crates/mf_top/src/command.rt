@@ -1,0 +1,94 @@
+ghost use Rattle.std.specs.Prelude.{◌≡◌, ◌≤◌, ◌⊎◌, map, string_bytes, Some};
+ghost use Rattle.mf_io.specs.Sink.{Rose};
+ghost use Rattle.mf_top.specs.Outcome.{Concludes, Runs, no_history};
+ghost use Rattle.mf_top.specs.Words.{request_of, IsRequest};
+
+use crate::decide::{Decided, decide, no_history};
+use crate::deliver::{deliver, final_status};
+use crate::words::read_words;
+use crate::{Outcome, Request};
+use mf_io::{Folder, Sink};
+use mf_plain::History;
+use std::alloc::Global;
+
+/// How a call ended: its exit status, and the history of its search, which is empty where no search returned.
+#[derive(Debug, Drop)]
+pub struct Ended {
+    pub status: u8,
+    pub history: History,
+}
+
+// Writes what was decided, and ends the call.
+fn conclude<O: Sink, E: Sink>(alloc: Global, decided: Decided, out: &mut O, err: &mut E) -> Ended
+    ensures answer { Concludes decided.outcome (O.written out.old) (O.written out.new) (E.written err.old) (E.written err.new) result.status }
+    ensures history { result.history ≡ decided.history }
+    ensures write_fault { result.status ≡ 5 → Rose (O.faults out.old) (O.faults out.new) ⊎ Rose (E.faults err.old) (E.faults err.new) }
+    ensures out_counted { O.faults out.old ≤ O.faults out.new }
+    ensures err_counted { E.faults err.old ≤ E.faults err.new }
+{
+    let delivered = deliver(alloc, &decided.outcome, out, err);
+    Ended {
+        status: final_status(decided.outcome.status(), delivered),
+        history: decided.history,
+    }
+}
+
+/// Searches for a plan with one worker.
+pub fn plan_one<F: Folder, O: Sink, E: Sink>(
+    alloc: Global,
+    request: &Request,
+    files: &mut F,
+    out: &mut O,
+    err: &mut E,
+) -> Ended
+    requires { IsRequest request.now }
+    ensures answer { Runs (F.held files.old) (Some request.now) (F.log files.old) (F.log files.new)
+        (O.written out.old) (O.written out.new) (E.written err.old) (E.written err.new) result.status result.history }
+    ensures write_fault { result.status ≡ 5 → Rose (O.faults out.old) (O.faults out.new) ⊎ Rose (E.faults err.old) (E.faults err.new) }
+    ensures out_counted { O.faults out.old ≤ O.faults out.new }
+    ensures err_counted { E.faults err.old ≤ E.faults err.new }
+{
+    let decided = decide(alloc, request, files);
+    conclude(alloc, decided, out, err)
+}
+
+// Ends a call in which no file is loaded.
+fn conclude_unloaded<O: Sink, E: Sink>(
+    alloc: Global,
+    outcome: Outcome,
+    out: &mut O,
+    err: &mut E,
+) -> Ended
+    ensures answer { Concludes outcome (O.written out.old) (O.written out.new) (E.written err.old) (E.written err.new) result.status }
+    ensures history { result.history ≡ no_history }
+    ensures write_fault { result.status ≡ 5 → Rose (O.faults out.old) (O.faults out.new) ⊎ Rose (E.faults err.old) (E.faults err.new) }
+    ensures out_counted { O.faults out.old ≤ O.faults out.new }
+    ensures err_counted { E.faults err.old ≤ E.faults err.new }
+{
+    let decided = Decided {
+        outcome,
+        history: no_history(alloc),
+    };
+    conclude(alloc, decided, out, err)
+}
+
+/// Runs the command that the words ask for; the program's own name is not among them.
+pub fn run<F: Folder, O: Sink, E: Sink>(
+    alloc: Global,
+    words: &[String],
+    files: &mut F,
+    out: &mut O,
+    err: &mut E,
+) -> Ended
+    ensures answer { Runs (F.held files.old) (request_of (map string_bytes words.now)) (F.log files.old) (F.log files.new)
+        (O.written out.old) (O.written out.new) (E.written err.old) (E.written err.new) result.status result.history }
+    ensures write_fault { result.status ≡ 5 → Rose (O.faults out.old) (O.faults out.new) ⊎ Rose (E.faults err.old) (E.faults err.new) }
+    ensures out_counted { O.faults out.old ≤ O.faults out.new }
+    ensures err_counted { E.faults err.old ≤ E.faults err.new }
+{
+    match read_words(alloc, words) {
+        Ok(Some(request)) => plan_one(alloc, &request, files, out, err),
+        Ok(None) => conclude_unloaded(alloc, Outcome::WordsRefused, out, err),
+        Err(_) => conclude_unloaded(alloc, Outcome::OutOfMemory, out, err),
+    }
+}
