@@ -1,3 +1,4 @@
+pub mod CallLemmas
 pub mod LoadLemmas
 pub mod RunLemmas
 pub mod SearchLemmas

@@ -1,5 +1,6 @@
-ghost use Rattle.std.specs.Prelude.{◌≡◌, ◌≤◌, ◌⊎◌, map, string_bytes, Some};
+ghost use Rattle.std.specs.Prelude.{◌≡◌, ◌≤◌, ◌⊎◌, map, string_bytes, Some, None};
 ghost use Rattle.mf_io.specs.Sink.{Rose};
+ghost use Rattle.mf_top.specs.Calls.{Stands, IsStatus};
 ghost use Rattle.mf_top.specs.Outcome.{Concludes, Runs, no_history};
 ghost use Rattle.mf_top.specs.Words.{request_of, IsRequest};
 
@@ -82,6 +83,10 @@ pub fn run<F: Folder, O: Sink, E: Sink>(
 ) -> Ended
     ensures answer { Runs (F.held files.old) (request_of (map string_bytes words.now)) (F.log files.old) (F.log files.new)
         (O.written out.old) (O.written out.new) (E.written err.old) (E.written err.new) result.status result.history }
+    ensures refused { result.status ≡ 2 → request_of (map string_bytes words.now) ≡ None }
+    ensures refusal { request_of (map string_bytes words.now) ≡ None → Stands 2 result.status }
+    ensures unloaded { request_of (map string_bytes words.now) ≡ None → F.log files.new ≡ F.log files.old }
+    ensures status { IsStatus result.status }
     ensures write_fault { result.status ≡ 5 → Rose (O.faults out.old) (O.faults out.new) ⊎ Rose (E.faults err.old) (E.faults err.new) }
     ensures out_counted { O.faults out.old ≤ O.faults out.new }
     ensures err_counted { E.faults err.old ≤ E.faults err.new }
