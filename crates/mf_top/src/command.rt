@@ -1,6 +1,6 @@
-ghost use Rattle.std.specs.Prelude.{◌≡◌, ◌≤◌, ◌⊎◌, map, string_bytes, Some, None};
-ghost use Rattle.mf_io.specs.Sink.{Rose};
-ghost use Rattle.mf_top.specs.Calls.{Stands, IsStatus};
+ghost use Rattle.std.specs.Prelude.{◌≡◌, ◌≤◌, ◌⊎◌, map, string_bytes, Some, None, IsTrue, codes};
+ghost use Rattle.mf_io.specs.Sink.{Appends, Rose};
+ghost use Rattle.mf_top.specs.Calls.{Stands, IsStatus, GrowsBy, SaysUnread, files_of, last_failed, new_loads};
 ghost use Rattle.mf_top.specs.Outcome.{Concludes, Runs, no_history};
 ghost use Rattle.mf_top.specs.Words.{request_of, IsRequest};
 
@@ -34,8 +34,8 @@ fn conclude<O: Sink, E: Sink>(alloc: Global, decided: Decided, out: &mut O, err:
     }
 }
 
-/// Searches for a plan with one worker.
-pub fn plan_one<F: Folder, O: Sink, E: Sink>(
+// Decides on the request, and ends the call.
+fn call_plan<F: Folder, O: Sink, E: Sink>(
     alloc: Global,
     request: &Request,
     files: &mut F,
@@ -51,6 +51,34 @@ pub fn plan_one<F: Folder, O: Sink, E: Sink>(
 {
     let decided = decide(alloc, request, files);
     conclude(alloc, decided, out, err)
+}
+
+/// Searches for a plan with one worker.
+pub fn plan_one<F: Folder, O: Sink, E: Sink>(
+    alloc: Global,
+    request: &Request,
+    files: &mut F,
+    out: &mut O,
+    err: &mut E,
+) -> Ended
+    requires { IsRequest request.now }
+    ensures answer { Runs (F.held files.old) (Some request.now) (F.log files.old) (F.log files.new)
+        (O.written out.old) (O.written out.new) (E.written err.old) (E.written err.new) result.status result.history }
+    ensures refused { result.status ≡ 2 → (Some request.now) ≡ None }
+    ensures refusal { (Some request.now) ≡ None → Stands 2 result.status }
+    ensures refusal_text { result.status ≡ 2 → (O.written out.new ≡ O.written out.old) × Appends (codes "words refused\n") (E.written err.old) (E.written err.new) }
+    ensures unloaded { (Some request.now) ≡ None → F.log files.new ≡ F.log files.old }
+    ensures log { GrowsBy (files_of (Some request.now)) (F.log files.old) (F.log files.new) }
+    ensures unread { result.status ≡ 4 → IsTrue (last_failed (new_loads (F.log files.old) (F.log files.new))) }
+    ensures read_fault { IsTrue (last_failed (new_loads (F.log files.old) (F.log files.new))) → Stands 4 result.status }
+    ensures unread_text { result.status ≡ 4 → (O.written out.new ≡ O.written out.old)
+        × SaysUnread (new_loads (F.log files.old) (F.log files.new)) (E.written err.old) (E.written err.new) }
+    ensures status { IsStatus result.status }
+    ensures write_fault { result.status ≡ 5 → Rose (O.faults out.old) (O.faults out.new) ⊎ Rose (E.faults err.old) (E.faults err.new) }
+    ensures out_counted { O.faults out.old ≤ O.faults out.new }
+    ensures err_counted { E.faults err.old ≤ E.faults err.new }
+{
+    call_plan(alloc, request, files, out, err)
 }
 
 // Ends a call in which no file is loaded.
@@ -73,6 +101,27 @@ fn conclude_unloaded<O: Sink, E: Sink>(
     conclude(alloc, decided, out, err)
 }
 
+// Reads the words, and calls what they ask for.
+fn call<F: Folder, O: Sink, E: Sink>(
+    alloc: Global,
+    words: &[String],
+    files: &mut F,
+    out: &mut O,
+    err: &mut E,
+) -> Ended
+    ensures answer { Runs (F.held files.old) (request_of (map string_bytes words.now)) (F.log files.old) (F.log files.new)
+        (O.written out.old) (O.written out.new) (E.written err.old) (E.written err.new) result.status result.history }
+    ensures write_fault { result.status ≡ 5 → Rose (O.faults out.old) (O.faults out.new) ⊎ Rose (E.faults err.old) (E.faults err.new) }
+    ensures out_counted { O.faults out.old ≤ O.faults out.new }
+    ensures err_counted { E.faults err.old ≤ E.faults err.new }
+{
+    match read_words(alloc, words) {
+        Ok(Some(request)) => plan_one(alloc, &request, files, out, err),
+        Ok(None) => conclude_unloaded(alloc, Outcome::WordsRefused, out, err),
+        Err(_) => conclude_unloaded(alloc, Outcome::OutOfMemory, out, err),
+    }
+}
+
 /// Runs the command that the words ask for; the program's own name is not among them.
 pub fn run<F: Folder, O: Sink, E: Sink>(
     alloc: Global,
@@ -83,17 +132,19 @@ pub fn run<F: Folder, O: Sink, E: Sink>(
 ) -> Ended
     ensures answer { Runs (F.held files.old) (request_of (map string_bytes words.now)) (F.log files.old) (F.log files.new)
         (O.written out.old) (O.written out.new) (E.written err.old) (E.written err.new) result.status result.history }
-    ensures refused { result.status ≡ 2 → request_of (map string_bytes words.now) ≡ None }
-    ensures refusal { request_of (map string_bytes words.now) ≡ None → Stands 2 result.status }
-    ensures unloaded { request_of (map string_bytes words.now) ≡ None → F.log files.new ≡ F.log files.old }
+    ensures refused { result.status ≡ 2 → (request_of (map string_bytes words.now)) ≡ None }
+    ensures refusal { (request_of (map string_bytes words.now)) ≡ None → Stands 2 result.status }
+    ensures refusal_text { result.status ≡ 2 → (O.written out.new ≡ O.written out.old) × Appends (codes "words refused\n") (E.written err.old) (E.written err.new) }
+    ensures unloaded { (request_of (map string_bytes words.now)) ≡ None → F.log files.new ≡ F.log files.old }
+    ensures log { GrowsBy (files_of (request_of (map string_bytes words.now))) (F.log files.old) (F.log files.new) }
+    ensures unread { result.status ≡ 4 → IsTrue (last_failed (new_loads (F.log files.old) (F.log files.new))) }
+    ensures read_fault { IsTrue (last_failed (new_loads (F.log files.old) (F.log files.new))) → Stands 4 result.status }
+    ensures unread_text { result.status ≡ 4 → (O.written out.new ≡ O.written out.old)
+        × SaysUnread (new_loads (F.log files.old) (F.log files.new)) (E.written err.old) (E.written err.new) }
     ensures status { IsStatus result.status }
     ensures write_fault { result.status ≡ 5 → Rose (O.faults out.old) (O.faults out.new) ⊎ Rose (E.faults err.old) (E.faults err.new) }
     ensures out_counted { O.faults out.old ≤ O.faults out.new }
     ensures err_counted { E.faults err.old ≤ E.faults err.new }
 {
-    match read_words(alloc, words) {
-        Ok(Some(request)) => plan_one(alloc, &request, files, out, err),
-        Ok(None) => conclude_unloaded(alloc, Outcome::WordsRefused, out, err),
-        Err(_) => conclude_unloaded(alloc, Outcome::OutOfMemory, out, err),
-    }
+    call(alloc, words, files, out, err)
 }

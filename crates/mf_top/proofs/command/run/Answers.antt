@@ -1,15 +1,29 @@
-use Rattle.std.proofs.Common.{◌≡◌, map, string_bytes, sym}
-use Rattle.mf_top.specs.Words.{request_of}
-use Rattle.mf_top.proofs.RunLemmas.{runs_refused, runs_unread}
+use Rattle.mf_top.proofs.CallLemmas.{two_refuses, refusal_stands, two_says, refusal_unloaded, log_grows, four_failed, failed_stands, four_says, is_status}
 use Rattle.mf_top.proofs.command.run.Goals as goal
 
-pub returns-in-Ok-None-clause-answer : goal.returns-in-Ok-None-clause-answer
-returns-in-Ok-None-clause-answer g c =
-    let said = rw c.in-Ok-None.field-0-is at c.in-Ok-None.ensures.value in
-    runs_refused (g.F.Folder.held c.args.files.now) (request_of (map string_bytes c.args.words.now)) (g.F.Folder.log c.args.files.now) c.conclude_unloaded.result.history
-      (sym said) c.conclude_unloaded.ensures.history c.conclude_unloaded.ensures.answer
+pub returns-clause-refused : goal.returns-clause-refused
+returns-clause-refused g c = two_refuses c.call.ensures.answer
 
-pub returns-in-Err-clause-answer : goal.returns-in-Err-clause-answer
-returns-in-Err-clause-answer g c =
-    runs_unread (g.F.Folder.held c.args.files.now) (request_of (map string_bytes c.args.words.now)) (g.F.Folder.log c.args.files.now) c.conclude_unloaded-in-Err.result.history
-      c.conclude_unloaded-in-Err.ensures.history c.conclude_unloaded-in-Err.ensures.answer
+pub returns-clause-refusal : goal.returns-clause-refusal
+returns-clause-refusal g c = refusal_stands c.call.ensures.answer
+
+pub returns-clause-refusal_text : goal.returns-clause-refusal_text
+returns-clause-refusal_text g c = two_says c.call.ensures.answer
+
+pub returns-clause-unloaded : goal.returns-clause-unloaded
+returns-clause-unloaded g c = refusal_unloaded c.call.ensures.answer
+
+pub returns-clause-log : goal.returns-clause-log
+returns-clause-log g c = log_grows c.call.ensures.answer
+
+pub returns-clause-unread : goal.returns-clause-unread
+returns-clause-unread g c = four_failed c.call.ensures.answer
+
+pub returns-clause-read_fault : goal.returns-clause-read_fault
+returns-clause-read_fault g c = failed_stands c.call.ensures.answer
+
+pub returns-clause-unread_text : goal.returns-clause-unread_text
+returns-clause-unread_text g c = four_says c.call.ensures.answer
+
+pub returns-clause-status : goal.returns-clause-status
+returns-clause-status g c = is_status c.call.ensures.answer
