@@ -2,9 +2,15 @@
 //! with the fewest unmet conjuncts of the goal is taken next.
 #![tactic(auto)]
 
+mod applying;
 mod fault;
 mod history;
+mod holding;
+mod listing;
+mod order;
 mod searching;
+mod successors;
+mod terms;
 mod tracing;
 
 pub use fault::{Memory, TraceFault};

@@ -11,5 +11,6 @@ pub mod OneStep
 pub mod Answering
 pub mod OneWorker
 pub mod Fuel
+pub mod Keeping
 pub mod Checking
 mod Example

@@ -1,5 +1,5 @@
 -- What a history answers, and what its answer says about the space.
-use Rattle.std.specs.Prelude.{◌≡◌, ℕ, suc, zero, ◌<◌, ◌++◌, List, [], ◌∷◌, Some, None, Contains, length}
+use Rattle.std.specs.Prelude.{◌≡◌, ℕ, suc, zero, ◌<◌, ◌++◌, Bool, true, false, List, [], ◌∷◌, Some, None, Contains, length}
 use Rattle.mf_search.specs.declared.maker.Maker.{Maker}
 use Rattle.mf_search.specs.declared.maker.Maker.TheVariants.{Start, Step}
 use Rattle.mf_search.specs.declared.status.Status.{Status}
@@ -26,6 +26,15 @@ Answers budget w Halted = ⊥
 -- A history with an answer is ended.
 abbrev pub Ended : {S : Type 0} → ℕ → World S → Type 0
 Ended budget w = (status : Status) × Answers budget w status
+
+-- The status of a search with this world, that may have been halted: its answer, or else whether it was halted.
+abbrev pub IsStatus : {S : Type 0} → ℕ → World S → Bool → Status → Type 0
+IsStatus budget w halted Running = (halted ≡ false) × (Ended budget w → ⊥)
+IsStatus budget w halted Halted = (halted ≡ true) × (Ended budget w → ⊥)
+IsStatus budget w halted (Plan i) = Answers budget w (Plan i)
+IsStatus budget w halted NoPlan = Answers budget w NoPlan
+IsStatus budget w halted Budget = Answers budget w Budget
+IsStatus budget w halted (Width i n) = Answers budget w (Width i n)
 
 -- The instances lead, one after the other, from x to y.
 abbrev pub Walk : {S : Type 0} → Space S → S → List ℕ → S → Type 0

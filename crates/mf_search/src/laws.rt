@@ -1,11 +1,11 @@
 //! The laws of the search: what holds of every legal history, over any space of states `S`.
-ghost use Rattle.std.specs.Prelude.{◌≡◌, ◌≤◌, ℕ, List, Contains};
+ghost use Rattle.std.specs.Prelude.{◌≡◌, ◌≤◌, ℕ, Bool, List, Contains};
 ghost use Rattle.mf_search.specs.declared.status.Status.TheVariants.{Plan, NoPlan};
 ghost use Rattle.mf_search.specs.Space.{Space};
 ghost use Rattle.mf_search.specs.World.{World, AllDifferent, at, opened_states, Legal, world, takes};
 ghost use Rattle.mf_search.specs.Greedy.{Greedy, IsGreedyRunTo};
 ghost use Rattle.mf_search.specs.Rebuilt.{states_of, rebuilt_run};
-ghost use Rattle.mf_search.specs.Answers.{Answers, Ended, IsPlanFrom, LeadsToGoal, InfiniteIsDead, IsClosed, plan_to};
+ghost use Rattle.mf_search.specs.Answers.{Answers, Ended, IsStatus, IsPlanFrom, LeadsToGoal, InfiniteIsDead, IsClosed, plan_to};
 
 use crate::entry::Entry;
 use crate::status::Status;
@@ -22,7 +22,7 @@ pub fn taken_by_a_greedy_run<S>()
     ensures { (sp : Space S) (budget workers : ℕ) (entries : List Entry) (i : ℕ) → Legal sp budget workers entries → Contains (takes entries) i → IsGreedyRunTo sp (rebuilt_run sp entries i) (at sp (world sp entries).opened i).state }
 {}
 
-/// The answers of legal histories are right, and a history has one answer at most: the trace of a plan leads
+/// The answers of legal histories are right, and a history has one answer and one status at most: the trace of a plan leads
 /// from the start to a goal; no plan means that nothing does, where nothing leads to a goal from a state of
 /// infinite value. In any case no plan means that the opened states are closed.
 pub fn answers_are_right<S>()
@@ -30,6 +30,7 @@ pub fn answers_are_right<S>()
     ensures no_plan { (sp : Space S) (budget workers : ℕ) (entries : List Entry) → Legal sp budget workers entries → Answers budget (world sp entries) NoPlan → InfiniteIsDead sp → LeadsToGoal sp sp.start → ⊥ }
     ensures closed { (sp : Space S) (budget workers : ℕ) (entries : List Entry) → Legal sp budget workers entries → Answers budget (world sp entries) NoPlan → IsClosed sp (world sp entries).opened }
     ensures one_answer { (budget : ℕ) (w : World S) (this that : Status) → Answers budget w this → Answers budget w that → this ≡ that }
+    ensures one_status { (budget : ℕ) (w : World S) (halted : Bool) (this that : Status) → IsStatus budget w halted this → IsStatus budget w halted that → this ≡ that }
 {}
 
 /// With one worker the taken states, in order, are themselves a greedy run, and there is one ended legal

@@ -2,6 +2,7 @@
 //! and the laws of the search, each a public function with an empty body.
 #![tactic(auto)]
 
+mod columns;
 mod entry;
 mod keys;
 mod laws;
@@ -10,6 +11,7 @@ mod numbers;
 mod status;
 mod steps;
 
+pub use columns::{columns_are_kept, least_is_found};
 pub use entry::Entry;
 pub use keys::keys_are_ordered;
 pub use laws::{answers_are_right, more_workers, one_worker, taken_by_a_greedy_run, taken_once};
@@ -17,3 +19,6 @@ pub use maker::Maker;
 pub use numbers::numbers_are_sound;
 pub use status::Status;
 pub use steps::{one_child_more, one_entry_more, one_parent_more, one_take_more};
+
+#[cfg(test)]
+mod tests;

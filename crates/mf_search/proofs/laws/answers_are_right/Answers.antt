@@ -1,4 +1,4 @@
-use Rattle.mf_search.proofs.Answering.{plan_is_right, no_plan_is_right, no_plan_is_closed, one_answer}
+use Rattle.mf_search.proofs.Answering.{plan_is_right, no_plan_is_right, no_plan_is_closed, one_answer, one_status}
 use Rattle.mf_search.proofs.laws.answers_are_right.Goals as goal
 
 pub returns-clause-plan : goal.returns-clause-plan
@@ -12,3 +12,6 @@ returns-clause-closed g c sp budget workers entries legal answer = no_plan_is_cl
 
 pub returns-clause-one_answer : goal.returns-clause-one_answer
 returns-clause-one_answer g c budget w this that h k = one_answer budget w this that h k
+
+pub returns-clause-one_status : goal.returns-clause-one_status
+returns-clause-one_status g c budget w halted this that h k = one_status budget w halted this that h k
