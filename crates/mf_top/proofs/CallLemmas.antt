@@ -117,7 +117,7 @@ refusal_unloaded {held = held} {log_before = before} {history = history} runs no
     runs.logged ∙ ap (λ loads. before ++ loads) (subst (λ r. Ends held r runs.loads history runs.outcome) none runs.ends).0 ∙ append-nil before
 
 -- no bytes were written
-wrote_nothing : (before after : Option (List ℕ)) → Appends [] before after → after ≡ before
+pub wrote_nothing : (before after : Option (List ℕ)) → Appends [] before after → after ≡ before
 wrote_nothing None after none = none
 wrote_nothing (Some bytes) after none = none ∙ ap (λ all. Some all) (append-nil bytes)
 
@@ -185,7 +185,7 @@ ends_in_order held (Some (Plan d p b)) loads history outcome (inl (empty, ends))
 ends_in_order held (Some (Plan d p b)) loads history outcome (inr by_answer) =
     in_order_by (d ∷ p ∷ []) loads (found d ∷ found p ∷ []) by_answer.loaded.read.noted (both_in_order d p false)
 
-new_loads_are : (before after loads : List Loading) → after ≡ before ++ loads → loads ≡ new_loads before after
+pub new_loads_are : (before after loads : List Loading) → after ≡ before ++ loads → loads ≡ new_loads before after
 new_loads_are before after loads grown = sym (front_rest after before loads grown)
 
 pub log_grows : {held : List ℕ → Option (List ℕ)} {request : Option Request} {log_before log_after : List Loading}
@@ -201,7 +201,7 @@ log_grows {held = held} {request = request} {log_before = before} {log_after = a
 -- a read fault
 
 -- the outcome is that a file can't be read exactly where the last load failed
-loading_failed : (held : List ℕ → Option (List ℕ)) (d p : List ℕ) (loads : List Loading) (outcome : Outcome) →
+pub loading_failed : (held : List ℕ → Option (List ℕ)) (d p : List ℕ) (loads : List Loading) (outcome : Outcome) →
     EndsLoading held d p loads outcome → status_of outcome ≡ 4 → IsTrue (last_failed loads)
 loading_failed held d p loads (CannotRead name) (inl (is, noted)) four = subst (λ l. IsTrue (last_failed l)) (sym noted) refl
 loading_failed held d p loads (CannotRead name) (inr (is, noted, read)) four = subst (λ l. IsTrue (last_failed l)) (sym noted) refl

@@ -1,7 +1,10 @@
-ghost use Rattle.std.specs.Prelude.{◌≡◌, ◌≤◌, ◌⊎◌, map, string_bytes, Some, None, IsTrue, codes};
+ghost use Rattle.std.specs.Prelude.{◌≡◌, ◌≤◌, ◌⊎◌, map, string_bytes, Some, None, IsTrue, codes, length, ℕ, List};
 ghost use Rattle.mf_io.specs.Sink.{Appends, Rose};
-ghost use Rattle.mf_top.specs.Calls.{Stands, IsStatus, GrowsBy, SaysUnread, files_of, last_failed, new_loads};
+ghost use Rattle.mf_top.specs.Calls.{Asks, IsRefusedInput, SaysRefused, IsComplete, PrintsPlan, HasNoPlan, SaysBudget, IsAnswer, IsHistoryOf, IsEmptyOr, IsGreedySearch, Stands, IsStatus, GrowsBy, SaysUnread, files_of, last_failed, new_loads};
 ghost use Rattle.mf_top.specs.Outcome.{Concludes, Runs, no_history};
+ghost use Rattle.mf_model.specs.declared.task.TypedTask.{TypedTask};
+ghost use Rattle.mf_top.specs.Loads.{greatest_length};
+ghost use Rattle.mf_top.specs.Stub.{IsTaskOfFiles};
 ghost use Rattle.mf_top.specs.Words.{request_of, IsRequest};
 
 use crate::decide::{Decided, decide, no_history};
@@ -73,6 +76,29 @@ pub fn plan_one<F: Folder, O: Sink, E: Sink>(
     ensures read_fault { IsTrue (last_failed (new_loads (F.log files.old) (F.log files.new))) → Stands 4 result.status }
     ensures unread_text { result.status ≡ 4 → (O.written out.new ≡ O.written out.old)
         × SaysUnread (new_loads (F.log files.old) (F.log files.new)) (E.written err.old) (E.written err.new) }
+    ensures plan { result.status ≡ 0 → (domain problem : List ℕ) (budget : ℕ) → Asks (F.held files.old) (Some request.now) domain problem budget
+        → PrintsPlan domain problem (O.written out.old) (O.written out.new) }
+    ensures no_plan { result.status ≡ 1 → (domain problem : List ℕ) (budget : ℕ) → Asks (F.held files.old) (Some request.now) domain problem budget → HasNoPlan domain problem }
+    ensures no_plan_text { result.status ≡ 1 → Appends (codes "no plan\n") (O.written out.old) (O.written out.new) }
+    ensures budget_text { result.status ≡ 6 → (domain problem : List ℕ) (budget : ℕ) → Asks (F.held files.old) (Some request.now) domain problem budget
+        → SaysBudget domain problem result.history (O.written out.old) (O.written out.new) }
+    ensures quiet { IsAnswer result.status → E.written err.new ≡ E.written err.old }
+    ensures answered { IsAnswer result.status → (domain problem : List ℕ) (budget : ℕ) → Asks (F.held files.old) (Some request.now) domain problem budget
+        → IsHistoryOf domain problem budget result.history result.status }
+    ensures searched { (domain problem : List ℕ) (budget : ℕ) → Asks (F.held files.old) (Some request.now) domain problem budget
+        → IsEmptyOr result.history (IsHistoryOf domain problem budget result.history result.status) }
+    ensures greedy { (domain problem : List ℕ) (budget : ℕ) → Asks (F.held files.old) (Some request.now) domain problem budget
+        → IsEmptyOr result.history (IsGreedySearch domain problem budget result.history) }
+    ensures refused_input { result.status ≡ 3 → (domain problem : List ℕ) (budget : ℕ) → Asks (F.held files.old) (Some request.now) domain problem budget → IsRefusedInput domain problem }
+    ensures input_refusal { (IsTrue (last_failed (new_loads (F.log files.old) (F.log files.new))) → ⊥) → (domain problem : List ℕ) (budget : ℕ) → Asks (F.held files.old) (Some request.now) domain problem budget
+        → IsRefusedInput domain problem → Stands 3 result.status }
+    ensures refused_text { result.status ≡ 3 → (domain problem : List ℕ) (budget : ℕ) → Asks (F.held files.old) (Some request.now) domain problem budget
+        → SaysRefused (Some request.now) domain problem (E.written err.old) (E.written err.new) }
+    ensures complete { (IsTrue (last_failed (new_loads (F.log files.old) (F.log files.new))) → ⊥)
+        → (Rose (O.faults out.old) (O.faults out.new) → ⊥) → (Rose (E.faults err.old) (E.faults err.new) → ⊥)
+        → (domain problem : List ℕ) (budget : ℕ) → Asks (F.held files.old) (Some request.now) domain problem budget
+        → length domain ≤ greatest_length → length problem ≤ greatest_length → (task : TypedTask) → IsTaskOfFiles domain problem task
+        → IsComplete result.status }
     ensures status { IsStatus result.status }
     ensures write_fault { result.status ≡ 5 → Rose (O.faults out.old) (O.faults out.new) ⊎ Rose (E.faults err.old) (E.faults err.new) }
     ensures out_counted { O.faults out.old ≤ O.faults out.new }
@@ -141,6 +167,29 @@ pub fn run<F: Folder, O: Sink, E: Sink>(
     ensures read_fault { IsTrue (last_failed (new_loads (F.log files.old) (F.log files.new))) → Stands 4 result.status }
     ensures unread_text { result.status ≡ 4 → (O.written out.new ≡ O.written out.old)
         × SaysUnread (new_loads (F.log files.old) (F.log files.new)) (E.written err.old) (E.written err.new) }
+    ensures plan { result.status ≡ 0 → (domain problem : List ℕ) (budget : ℕ) → Asks (F.held files.old) (request_of (map string_bytes words.now)) domain problem budget
+        → PrintsPlan domain problem (O.written out.old) (O.written out.new) }
+    ensures no_plan { result.status ≡ 1 → (domain problem : List ℕ) (budget : ℕ) → Asks (F.held files.old) (request_of (map string_bytes words.now)) domain problem budget → HasNoPlan domain problem }
+    ensures no_plan_text { result.status ≡ 1 → Appends (codes "no plan\n") (O.written out.old) (O.written out.new) }
+    ensures budget_text { result.status ≡ 6 → (domain problem : List ℕ) (budget : ℕ) → Asks (F.held files.old) (request_of (map string_bytes words.now)) domain problem budget
+        → SaysBudget domain problem result.history (O.written out.old) (O.written out.new) }
+    ensures quiet { IsAnswer result.status → E.written err.new ≡ E.written err.old }
+    ensures answered { IsAnswer result.status → (domain problem : List ℕ) (budget : ℕ) → Asks (F.held files.old) (request_of (map string_bytes words.now)) domain problem budget
+        → IsHistoryOf domain problem budget result.history result.status }
+    ensures searched { (domain problem : List ℕ) (budget : ℕ) → Asks (F.held files.old) (request_of (map string_bytes words.now)) domain problem budget
+        → IsEmptyOr result.history (IsHistoryOf domain problem budget result.history result.status) }
+    ensures greedy { (domain problem : List ℕ) (budget : ℕ) → Asks (F.held files.old) (request_of (map string_bytes words.now)) domain problem budget
+        → IsEmptyOr result.history (IsGreedySearch domain problem budget result.history) }
+    ensures refused_input { result.status ≡ 3 → (domain problem : List ℕ) (budget : ℕ) → Asks (F.held files.old) (request_of (map string_bytes words.now)) domain problem budget → IsRefusedInput domain problem }
+    ensures input_refusal { (IsTrue (last_failed (new_loads (F.log files.old) (F.log files.new))) → ⊥) → (domain problem : List ℕ) (budget : ℕ) → Asks (F.held files.old) (request_of (map string_bytes words.now)) domain problem budget
+        → IsRefusedInput domain problem → Stands 3 result.status }
+    ensures refused_text { result.status ≡ 3 → (domain problem : List ℕ) (budget : ℕ) → Asks (F.held files.old) (request_of (map string_bytes words.now)) domain problem budget
+        → SaysRefused (request_of (map string_bytes words.now)) domain problem (E.written err.old) (E.written err.new) }
+    ensures complete { (IsTrue (last_failed (new_loads (F.log files.old) (F.log files.new))) → ⊥)
+        → (Rose (O.faults out.old) (O.faults out.new) → ⊥) → (Rose (E.faults err.old) (E.faults err.new) → ⊥)
+        → (domain problem : List ℕ) (budget : ℕ) → Asks (F.held files.old) (request_of (map string_bytes words.now)) domain problem budget
+        → length domain ≤ greatest_length → length problem ≤ greatest_length → (task : TypedTask) → IsTaskOfFiles domain problem task
+        → IsComplete result.status }
     ensures status { IsStatus result.status }
     ensures write_fault { result.status ≡ 5 → Rose (O.faults out.old) (O.faults out.new) ⊎ Rose (E.faults err.old) (E.faults err.new) }
     ensures out_counted { O.faults out.old ≤ O.faults out.new }
