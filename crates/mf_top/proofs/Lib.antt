@@ -3,6 +3,7 @@ pub mod BuiltLemmas
 pub mod CallLemmas
 pub mod InputLemmas
 pub mod LoadLemmas
+pub mod PlanLaws
 pub mod RunLemmas
 pub mod SearchLemmas
 pub mod WordLemmas

@@ -42,8 +42,3 @@ no_other_answer task budget searched is (inr (inl halted)) = subst (Answers budg
 no_other_answer task budget searched is (inr (inr (i, n, wide))) =
     after-never_wide task budget (begin (space_of task)) searched.history.entries (λ i n ends. cc) is.legal i n
       (subst (Answers budget (world_of task searched.history)) wide is.answers)
-
--- where the answer is no plan, none exists
-pub no_plan_exists : (task : TypedTask) (budget : ℕ) (searched : Searched) → IsPlainTask task → IsSearched task budget searched →
-    searched.status ≡ status.NoPlan → (steps : List Instance) → IsPlan task steps → ⊥
-no_plan_exists task budget searched plain is none steps valid = ?

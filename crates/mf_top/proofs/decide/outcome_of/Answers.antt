@@ -1,4 +1,5 @@
-use Rattle.mf_top.proofs.SearchLemmas.{no_other_answer, no_plan_exists}
+use Rattle.mf_top.proofs.PlanLaws.{no_plan_exists}
+use Rattle.mf_top.proofs.SearchLemmas.{no_other_answer}
 use Rattle.mf_top.proofs.decide.outcome_of.Goals as goal
 
 pub unreachable-requires : goal.unreachable-requires
