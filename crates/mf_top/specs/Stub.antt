@@ -10,7 +10,7 @@ use Rattle.mf_top.specs.declared.stub.BuiltFault.TheVariants.{NotBuilt, Memory}
 pub task_of_files : List ℕ → List ℕ → Option TypedTask
 task_of_files domain problem = None
 
-pub IsBuiltDomain : List ℕ → Type 0
+abbrev pub IsBuiltDomain : List ℕ → Type 0
 IsBuiltDomain domain = Unit {0}
 
 abbrev pub IsTaskOfFiles : List ℕ → List ℕ → TypedTask → Type 0
