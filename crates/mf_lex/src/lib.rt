@@ -1,13 +1,17 @@
-// A library with one function.
+//! The tokens of a file, and the tree of its lists.
 #![tactic(auto)]
 
-ghost use Rattle.std.specs.Prelude.{◌≡◌};
-ghost use Rattle.mf_lex.specs.Echo.{echo_of};
+mod bytes;
+mod fault;
+mod growth;
+mod laws;
+mod lexer;
+mod lists;
+#[cfg(test)]
+mod tests;
+mod words;
 
-// The `ensures` clause is the contract: what `echo` returns is `echo_of` of its argument, a definition
-// in `specs/Echo.antt`, which a caller's clause can cite too.
-pub fn echo(x: usize) -> usize
-    ensures { result ≡ echo_of x }
-{
-    x
-}
+pub use fault::{LexFault, TreeFault};
+pub use laws::{tokens_are_unique, tokens_have_no_fault, tree_is_unique};
+pub use lexer::tokens;
+pub use lists::tree;

@@ -1,13 +1,22 @@
-// A library with one function.
+//! The reader of domain and problem files.
 #![tactic(auto)]
 
-ghost use Rattle.std.specs.Prelude.{◌≡◌};
-ghost use Rattle.mf_reader.specs.Echo.{echo_of};
+mod actions;
+mod atomic;
+mod atoms;
+mod compound;
+mod declared;
+mod domain;
+mod fault;
+mod laws;
+mod names;
+mod parts;
+mod problem;
+mod read;
+mod tables;
+mod task;
+mod words;
 
-// The `ensures` clause is the contract: what `echo` returns is `echo_of` of its argument, a definition
-// in `specs/Echo.antt`, which a caller's clause can cite too.
-pub fn echo(x: usize) -> usize
-    ensures { result ≡ echo_of x }
-{
-    x
-}
+pub use fault::BuiltFault;
+pub use laws::task_is_unique;
+pub use read::read_built;

@@ -1,0 +1,10 @@
+pub mod Classes
+pub mod Comments
+pub mod Gaps
+pub mod Steps
+pub mod Unique
+pub mod Folds
+pub mod Counts
+pub mod OneByte
+pub mod Growing
+pub mod Whole

@@ -1,0 +1,9 @@
+pub mod ActionForms
+pub mod AtomForms
+pub mod Entered
+pub mod FileAnswers
+pub mod FileForms
+pub mod Readings
+pub mod SectionForms
+pub mod TaskForms
+pub mod WordForms

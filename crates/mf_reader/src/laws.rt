@@ -1,0 +1,8 @@
+ghost use Rattle.std.specs.Prelude.{◌≡◌, List, ℕ};
+ghost use Rattle.mf_model.specs.declared.task.TypedTask.{TypedTask};
+ghost use Rattle.mf_model.specs.Built.{IsTaskOfFiles};
+
+/// Two files give one task at most.
+pub fn task_is_unique()
+    ensures { (domain problem : List ℕ) (one other : TypedTask) → IsTaskOfFiles domain problem one → IsTaskOfFiles domain problem other → one ≡ other }
+{}
