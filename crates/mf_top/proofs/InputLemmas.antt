@@ -19,7 +19,8 @@ use Rattle.mf_top.specs.Calls.{Asks, Stands, IsStatus, files_of, new_loads, last
 use Rattle.mf_top.specs.Delivery.{WritesBoth, final_status}
 use Rattle.mf_top.specs.Loads.{Reads, IsTooLong, found, lost, greatest_length}
 use Rattle.mf_top.specs.Outcome.{AreRead, IsTaskOfLoads, Concludes, Ends, EndsLoading, EndsPlan, EndsRefused, IsRefused, EndsSearch, Runs, no_history}
-use Rattle.mf_top.specs.Stub.{IsTaskOfFiles, IsBuiltDomain}
+use Rattle.mf_model.specs.Built.{IsTaskOfFiles}
+use Rattle.mf_top.specs.Loads.{IsBuiltDomain}
 use Rattle.mf_top.proofs.BuiltLemmas.{task_is_built}
 use Rattle.mf_top.specs.Texts.{status_of, out_text, err_text}
 

@@ -20,7 +20,8 @@ use Rattle.mf_top.specs.declared.request.Request.{Request}
 use Rattle.mf_top.specs.declared.request.Request.TheVariants.{Plan}
 use Rattle.mf_top.specs.Loads.{greatest_length}
 use Rattle.mf_top.specs.Outcome.{no_history}
-use Rattle.mf_top.specs.Stub.{IsTaskOfFiles, IsBuiltDomain}
+use Rattle.mf_model.specs.Built.{IsTaskOfFiles}
+use Rattle.mf_top.specs.Loads.{IsBuiltDomain}
 use Rattle.mf_top.specs.Texts.{plan_text}
 
 -- a plan is asked for, within this budget, and the folder tells that the two files have these bytes

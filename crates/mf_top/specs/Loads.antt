@@ -2,6 +2,8 @@
 use Rattle.std.specs.Prelude.{◌≡◌, ℕ, ◌<◌, ◌≤◌, Bool, true, false, Option, Some, None, Result, Ok, Err, List, [], ◌∷◌, ◌++◌, length, map, drop, IfSome}
 use Rattle.mf_io.specs.declared.folder.Loading.{Loading}
 use Rattle.mf_io.specs.Folder.{Notes}
+use Rattle.mf_model.specs.declared.form.Domain.{Domain}
+use Rattle.mf_model.specs.Built.{IsBuiltDomainFile}
 use Rattle.mf_top.specs.declared.outcome.Outcome.{Outcome}
 use Rattle.mf_top.specs.declared.outcome.Outcome.TheVariants.{WordsRefused, CannotRead, TooLong, NotBuilt, PlanFound, NoPlan, BudgetReached, OutOfMemory}
 
@@ -14,6 +16,10 @@ found name = record { name = name; failed = false }
 
 abbrev pub lost : List ℕ → Loading
 lost name = record { name = name; failed = true }
+
+-- the bytes are those of a domain of the built form
+abbrev pub IsBuiltDomain : List ℕ → Type 0
+IsBuiltDomain bytes = (domain : Domain) × IsBuiltDomainFile bytes domain
 
 -- the bytes are those that the folder holds, if it tells them, and no more than allowed
 pub record Reads (held : Option (List ℕ)) (bytes : List ℕ) : Type 0 where

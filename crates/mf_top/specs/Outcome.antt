@@ -18,7 +18,8 @@ use Rattle.mf_top.specs.declared.outcome.Outcome.{Outcome}
 use Rattle.mf_top.specs.declared.outcome.Outcome.TheVariants.{WordsRefused, CannotRead, TooLong, NotBuilt, PlanFound, NoPlan, BudgetReached, OutOfMemory}
 use Rattle.mf_top.specs.Delivery.{WritesBoth, final_status}
 use Rattle.mf_top.specs.Loads.{Reads, IsTooLong, found, lost}
-use Rattle.mf_top.specs.Stub.{IsTaskOfFiles, IsBuiltDomain}
+use Rattle.mf_model.specs.Built.{IsTaskOfFiles}
+use Rattle.mf_top.specs.Loads.{IsBuiltDomain}
 use Rattle.mf_top.specs.Texts.{plan_text, out_text, err_text, status_of}
 
 -- the history of a call in which no search returned

@@ -4,7 +4,7 @@ ghost use Rattle.mf_top.specs.Calls.{Asks, IsRefusedInput, SaysRefused, IsComple
 ghost use Rattle.mf_top.specs.Outcome.{Concludes, Runs, no_history};
 ghost use Rattle.mf_model.specs.declared.task.TypedTask.{TypedTask};
 ghost use Rattle.mf_top.specs.Loads.{greatest_length};
-ghost use Rattle.mf_top.specs.Stub.{IsTaskOfFiles};
+ghost use Rattle.mf_model.specs.Built.{IsTaskOfFiles};
 ghost use Rattle.mf_top.specs.Words.{request_of, IsRequest};
 
 use crate::decide::{Decided, decide, no_history};

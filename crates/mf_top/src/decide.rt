@@ -1,10 +1,11 @@
-ghost use Rattle.std.specs.Prelude.{◌≡◌, ℕ, ◌≤◌, ◌⊎◌, ◌++◌, List, Some};
+ghost use Rattle.std.specs.Prelude.{◌≡◌, ℕ, ◌≤◌, ◌⊎◌, ◌++◌, List, Some, length};
 ghost use Rattle.std.specs.Str.{IsUtf8};
 ghost use Rattle.mf_io.specs.declared.folder.Loading.{Loading};
 ghost use Rattle.mf_model.specs.Plain.{IsPlainTask};
 ghost use Rattle.mf_plain.specs.Searches.{IsSearched};
 ghost use Rattle.mf_search.specs.declared.status.Status.TheVariants as status;
 ghost use Rattle.mf_top.specs.declared.outcome.Outcome.TheVariants.{NotBuilt, OutOfMemory};
+ghost use Rattle.mf_top.specs.Loads.{greatest_length};
 ghost use Rattle.mf_top.specs.Words.{IsRequest};
 ghost use Rattle.mf_top.specs.Outcome.{no_history, LoadsTask, EndsSearch, Ends, EndsPlan, ReadsTask, GivesPlan};
 
@@ -54,6 +55,8 @@ fn read_task(
     domain_bytes: &[u8],
     problem_bytes: &[u8],
 ) -> Result<TypedTask, Outcome>
+    requires domain_size { length domain_bytes.now ≤ greatest_length }
+    requires problem_size { length problem_bytes.now ≤ greatest_length }
     ensures { ReadsTask domain.now problem.now domain_bytes.now problem_bytes.now result }
 {
     match read_built(alloc, domain_bytes, problem_bytes) {

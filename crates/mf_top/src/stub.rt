@@ -1,4 +1,6 @@
-ghost use Rattle.mf_top.specs.Stub.{ReadsBuilt};
+ghost use Rattle.std.specs.Prelude.{◌≤◌, length, IfOk, IfErr};
+ghost use Rattle.mf_model.specs.Built.{IsTaskOfFiles};
+ghost use Rattle.mf_top.specs.Stub.{IsCause};
 
 use mf_model::{FileKind, TypedTask};
 use std::alloc::Global;
@@ -14,7 +16,10 @@ pub(crate) fn read_built(
     domain: &[u8],
     problem: &[u8],
 ) -> Result<TypedTask, BuiltFault>
-    ensures { ReadsBuilt domain.now problem.now result }
+    requires domain_size { length domain.now ≤ 16777216 }
+    requires problem_size { length problem.now ≤ 16777216 }
+    ensures task { IfOk result (IsTaskOfFiles domain.now problem.now) }
+    ensures cause { IfErr result (IsCause domain.now problem.now) }
 {
     Err(BuiltFault::Memory)
 }
