@@ -8,6 +8,7 @@ mod task;
 mod text;
 mod token;
 mod tree;
+mod truth;
 
 pub use form::{
     Domain, FileKind, Header, Problem, RawAction, RawCond, RawEffect, RawExpr, RawMetric, RawValue,
@@ -22,3 +23,7 @@ pub use task::{
 pub use text::Text;
 pub use token::{Kind, Span, Token, Tokens};
 pub use tree::Tree;
+pub use truth::Truth;
+
+#[cfg(test)]
+mod tests;

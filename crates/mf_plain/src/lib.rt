@@ -1,13 +1,25 @@
-// A library with one function.
+//! The search of one worker over plain states: every instance is tried at each state, and an open state
+//! with the fewest unmet conjuncts of the goal is taken next.
 #![tactic(auto)]
 
-ghost use Rattle.std.specs.Prelude.{◌≡◌};
-ghost use Rattle.mf_plain.specs.Echo.{echo_of};
+mod applying;
+mod fault;
+mod history;
+mod holding;
+mod laws;
+mod least;
+mod listing;
+mod order;
+mod progress;
+mod searching;
+mod start;
+mod successors;
+mod terms;
+mod tracing;
 
-// The `ensures` clause is the contract: what `echo` returns is `echo_of` of its argument, a definition
-// in `specs/Echo.antt`, which a caller's clause can cite too.
-pub fn echo(x: usize) -> usize
-    ensures { result ≡ echo_of x }
-{
-    x
-}
+pub use fault::{Memory, TraceFault};
+pub use history::{History, Searched};
+pub use laws::{budget_is_reached, no_plan_exists, only_one_search, takes_are_greedy};
+pub use mf_search::{Entry, Maker, Status};
+pub use searching::search;
+pub use tracing::plan_of;

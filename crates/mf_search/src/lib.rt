@@ -1,13 +1,24 @@
-// A library with one function.
+//! Greedy best-first search by several workers under permits, over any space: the data of a history
+//! and the laws of the search, each a public function with an empty body.
 #![tactic(auto)]
 
-ghost use Rattle.std.specs.Prelude.{◌≡◌};
-ghost use Rattle.mf_search.specs.Echo.{echo_of};
+mod columns;
+mod entry;
+mod keys;
+mod laws;
+mod maker;
+mod numbers;
+mod status;
+mod steps;
 
-// The `ensures` clause is the contract: what `echo` returns is `echo_of` of its argument, a definition
-// in `specs/Echo.antt`, which a caller's clause can cite too.
-pub fn echo(x: usize) -> usize
-    ensures { result ≡ echo_of x }
-{
-    x
-}
+pub use columns::{columns_are_kept, least_is_found};
+pub use entry::Entry;
+pub use keys::keys_are_ordered;
+pub use laws::{answers_are_right, more_workers, one_worker, taken_by_a_greedy_run, taken_once};
+pub use maker::Maker;
+pub use numbers::numbers_are_sound;
+pub use status::Status;
+pub use steps::{one_child_more, one_entry_more, one_parent_more, one_take_more};
+
+#[cfg(test)]
+mod tests;

@@ -1,13 +1,18 @@
-// A library with one function.
+//! The commands of the planner: from words and files to a status and the bytes that are written.
 #![tactic(auto)]
 
-ghost use Rattle.std.specs.Prelude.{◌≡◌};
-ghost use Rattle.mf_top.specs.Echo.{echo_of};
+mod command;
+mod decide;
+mod deliver;
+mod load;
+mod outcome;
+mod request;
 
-// The `ensures` clause is the contract: what `echo` returns is `echo_of` of its argument, a definition
-// in `specs/Echo.antt`, which a caller's clause can cite too.
-pub fn echo(x: usize) -> usize
-    ensures { result ≡ echo_of x }
-{
-    x
-}
+mod stub;
+mod texts;
+mod words;
+
+pub use load::GREATEST_LENGTH;
+pub use outcome::Outcome;
+pub use request::Request;
+pub use command::{Ended, plan_one, run};

@@ -1,0 +1,15 @@
+pub mod Comparing
+pub mod Placing
+pub mod Arguments
+pub mod ConjunctionLaws
+pub mod EffectLaws
+pub mod Applicable
+pub mod Values
+pub mod LeastOpen
+pub mod Marks
+pub mod Advancing
+pub mod Starting
+pub mod Bridge
+pub mod Lawful
+pub mod TraceLaws
+pub mod OpeningChildren

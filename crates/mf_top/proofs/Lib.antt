@@ -1,0 +1,9 @@
+pub mod AnswerLemmas
+pub mod BuiltLemmas
+pub mod CallLemmas
+pub mod InputLemmas
+pub mod LoadLemmas
+pub mod PlanLaws
+pub mod RunLemmas
+pub mod SearchLemmas
+pub mod WordLemmas

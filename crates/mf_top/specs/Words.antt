@@ -1,0 +1,51 @@
+-- What the words of a call ask for: `plan DOMAIN PROBLEM`, with `--budget N` where it is wanted, and `--heuristic goals`,
+-- in this order and as separate words.
+use Rattle.std.specs.Prelude.{◌≡◌, ℕ, ◌+◌, ◌-◌, ◌*◌, ◌≤◌, Bool, true, false, ◌&&◌, if◌then◌else◌, nat_le, List, [], ◌∷◌, length, map, Option, Some, None, codes, bytes_eq}
+use Rattle.std.specs.Char.{is_ascii_digit}
+use Rattle.std.specs.Option.{option_map}
+use Rattle.std.specs.Str.{IsUtf8}
+use Rattle.mf_top.specs.declared.request.Request.{Request}
+use Rattle.mf_top.specs.declared.request.Request.TheVariants.{Plan}
+
+abbrev pub default_budget : ℕ
+default_budget = 1000000
+
+abbrev pub greatest_budget : ℕ
+greatest_budget = 1000000000000
+
+abbrev pub in_range : Option ℕ → Option ℕ
+in_range None = None
+in_range (Some n) = if nat_le 1 n && nat_le n greatest_budget then Some n else None
+
+-- the number of the decimal digits, behind digits that are worth n; nothing where a byte is no digit
+abbrev pub number_after : ℕ → List ℕ → Option ℕ
+number_after n [] = Some n
+number_after n (b ∷ bs) = if is_ascii_digit b then number_after (10 * n + (b - 48)) bs else None
+
+-- a budget is 1 to 20 decimal digits, and lies in its range
+abbrev pub budget_of : List ℕ → Option ℕ
+budget_of word = if nat_le 1 (length word) && nat_le (length word) 20 then in_range (number_after 0 word) else None
+
+abbrev pub is_plan : List ℕ → Bool
+is_plan word = bytes_eq word (codes "plan")
+
+abbrev pub is_budget : List ℕ → Bool
+is_budget word = bytes_eq word (codes "--budget")
+
+abbrev pub asks_goals : List ℕ → List ℕ → Bool
+asks_goals option value = bytes_eq option (codes "--heuristic") && bytes_eq value (codes "goals")
+
+abbrev pub plan_within : List ℕ → List ℕ → Option ℕ → Option Request
+plan_within domain problem budget = option_map (λ n. Plan domain problem n) budget
+
+-- what the words ask for; nothing where they break the rule
+abbrev pub request_of : List (List ℕ) → Option Request
+request_of (command ∷ domain ∷ problem ∷ option ∷ value ∷ []) =
+    if is_plan command && asks_goals option value then Some (Plan domain problem default_budget) else None
+request_of (command ∷ domain ∷ problem ∷ limit ∷ number ∷ option ∷ value ∷ []) =
+    if is_plan command && (is_budget limit && asks_goals option value) then plan_within domain problem (budget_of number) else None
+request_of _ = None
+
+-- a request that words can make: its file names are texts, and its budget lies in the range
+abbrev pub IsRequest : Request → Type 0
+IsRequest (Plan domain problem budget) = IsUtf8 domain × IsUtf8 problem × (1 ≤ budget) × (budget ≤ greatest_budget)

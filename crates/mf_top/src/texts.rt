@@ -1,0 +1,133 @@
+ghost use Rattle.std.specs.Prelude.{◌≡◌, ◌++◌, OnOk, IfOk, codes};
+ghost use Rattle.std.specs.List.{flat_map};
+ghost use Rattle.std.specs.Fmt.{decimal};
+ghost use Rattle.mf_top.specs.Texts.{action_name, object_name, object_text, step_text, plan_text, out_text, err_text};
+
+use crate::Outcome;
+use mf_io::Memory;
+use mf_model::{Action, Instance, Object, Text, TypedTask};
+use std::alloc::Global;
+
+fn object_name(objects: &[Object], number: u16) -> &[u8]
+    ensures { result.now ≡ object_name objects.entry.now number }
+{
+    match objects.get(usize::from(number)) {
+        Some(object) => object.name.as_slice(),
+        None => &[],
+    }
+}
+
+fn action_name(actions: &[Action], number: u16) -> &[u8]
+    ensures { result.now ≡ action_name actions.entry.now number }
+{
+    match actions.get(usize::from(number)) {
+        Some(action) => action.name.as_slice(),
+        None => &[],
+    }
+}
+
+fn write_number(alloc: Global, number: u64, text: &mut Text) -> Result<(), Memory>
+    ensures { OnOk result (text.new ≡ text.old ++ decimal number) }
+{
+    let digits = number.to_string(alloc)?;
+    text.extend(digits.as_bytes())?;
+    Ok(())
+}
+
+fn write_object(objects: &[Object], number: u16, text: &mut Text) -> Result<(), Memory>
+    ensures { OnOk result (text.new ≡ text.old ++ object_text objects.now number) }
+{
+    text.push(b' ')?;
+    text.extend(object_name(objects, number))?;
+    Ok(())
+}
+
+fn write_objects(objects: &[Object], numbers: &[u16], text: &mut Text) -> Result<(), Memory>
+    ensures { OnOk result (text.new ≡ text.old ++ flat_map (object_text objects.now) numbers.now) }
+{
+    for number in numbers {
+        write_object(objects, *number, text)?;
+    }
+    Ok(())
+}
+
+fn write_step(task: &TypedTask, step: &Instance, text: &mut Text) -> Result<(), Memory>
+    ensures { OnOk result (text.new ≡ text.old ++ step_text task.now step.now) }
+{
+    text.push(b'(')?;
+    text.extend(action_name(task.actions.as_slice(), step.action))?;
+    write_objects(task.objects.as_slice(), step.objects.as_slice(), text)?;
+    text.extend(b")\n")?;
+    Ok(())
+}
+
+fn write_steps(task: &TypedTask, steps: &[Instance], text: &mut Text) -> Result<(), Memory>
+    ensures { OnOk result (text.new ≡ text.old ++ flat_map (step_text task.now) steps.now) }
+{
+    for step in steps {
+        write_step(task, step, text)?;
+    }
+    Ok(())
+}
+
+/// A line per step, and then their number.
+pub(crate) fn plan_text(alloc: Global, task: &TypedTask, steps: &[Instance]) -> Result<Text, Memory>
+    ensures { IfOk result (λ text. text ≡ plan_text task.now steps.now) }
+{
+    let mut text = Text::new(alloc);
+    write_steps(task, steps, &mut text)?;
+    text.extend(b"; steps ")?;
+    write_number(alloc, steps.len() as u64, &mut text)?;
+    text.push(b'\n')?;
+    Ok(text)
+}
+
+fn budget_text(alloc: Global, expansions: u64) -> Result<Text, Memory>
+    ensures { IfOk result (λ text. text ≡ codes "budget reached after " ++ decimal expansions ++ codes " expansions\n") }
+{
+    let mut text = Text::from_slice(alloc, b"budget reached after ")?;
+    write_number(alloc, expansions, &mut text)?;
+    text.extend(b" expansions\n")?;
+    Ok(text)
+}
+
+fn joined(alloc: Global, first: &[u8], second: &[u8], third: &[u8]) -> Result<Text, Memory>
+    ensures { IfOk result (λ text. text ≡ first.now ++ second.now ++ third.now) }
+{
+    let mut text = Text::from_slice(alloc, first)?;
+    text.extend(second)?;
+    text.extend(third)?;
+    Ok(text)
+}
+
+/// What an outcome writes to out.
+pub(crate) fn out_text(alloc: Global, outcome: &Outcome) -> Result<Text, Memory>
+    ensures { IfOk result (λ text. text ≡ out_text outcome.now) }
+{
+    match outcome {
+        Outcome::PlanFound { text } => Ok(text.copy(alloc)?),
+        Outcome::NoPlan => Ok(Text::from_slice(alloc, b"no plan\n")?),
+        Outcome::BudgetReached { expansions } => budget_text(alloc, *expansions),
+        Outcome::WordsRefused
+        | Outcome::CannotRead { .. }
+        | Outcome::TooLong { .. }
+        | Outcome::NotBuilt { .. }
+        | Outcome::OutOfMemory => Ok(Text::new(alloc)),
+    }
+}
+
+/// What an outcome writes to err.
+pub(crate) fn err_text(alloc: Global, outcome: &Outcome) -> Result<Text, Memory>
+    ensures { IfOk result (λ text. text ≡ err_text outcome.now) }
+{
+    match outcome {
+        Outcome::WordsRefused => Ok(Text::from_slice(alloc, b"words refused\n")?),
+        Outcome::CannotRead { name } => joined(alloc, b"cannot read ", name.as_slice(), b"\n"),
+        Outcome::TooLong { name } => joined(alloc, b"", name.as_slice(), b": longer than 16777216 bytes\n"),
+        Outcome::NotBuilt { name } => joined(alloc, b"", name.as_slice(), b": not built\n"),
+        Outcome::PlanFound { .. }
+        | Outcome::NoPlan
+        | Outcome::BudgetReached { .. }
+        | Outcome::OutOfMemory => Ok(Text::new(alloc)),
+    }
+}

@@ -1,0 +1,80 @@
+ghost use Rattle.std.specs.Prelude.{◌≡◌, ◌≤◌, map, IfOk, IfSome, string_bytes};
+ghost use Rattle.mf_top.specs.declared.request.Request.TheVariants.{Plan};
+ghost use Rattle.mf_top.specs.Words.{budget_of, request_of, asks_goals, greatest_budget, IsRequest};
+
+use crate::Request;
+use mf_model::Text;
+use std::alloc::{AllocError, Global};
+
+const DEFAULT_BUDGET: u64 = 1_000_000;
+const GREATEST_BUDGET: u64 = 1_000_000_000_000;
+
+// A budget of 1 to 20 decimal digits, if it lies in its range.
+pub(crate) fn read_budget(word: &[u8]) -> Option<u64>
+    ensures value { result ≡ budget_of word.now }
+    ensures range { IfSome result (λ budget. (1 ≤ budget) × (budget ≤ greatest_budget)) }
+{
+    if word.is_empty() || word.len() > 20 {
+        return None;
+    }
+    let mut number = 0;
+    for byte in word {
+        if !byte.is_ascii_digit() {
+            return None;
+        }
+        number = 10 * number + u64::from(*byte - b'0');
+        if number > GREATEST_BUDGET {
+            return None;
+        }
+    }
+    if number == 0 { None } else { Some(number) }
+}
+
+fn asks_for_goals(option: &str, value: &str) -> bool
+    ensures { result ≡ asks_goals option.now value.now }
+{
+    option == "--heuristic" && value == "goals"
+}
+
+// The request for a plan of the task in two files.
+fn plan_within(
+    alloc: Global,
+    domain: &String,
+    problem: &String,
+    budget: u64,
+) -> Result<Option<Request>, AllocError>
+    requires { (1 ≤ budget) × (budget ≤ greatest_budget) }
+    ensures value { IfOk result (λ request. request ≡ Some (Plan (string_bytes domain.now) (string_bytes problem.now) budget)) }
+    ensures valid { IfOk result (λ request. IfSome request IsRequest) }
+{
+    Ok(Some(Request::Plan {
+        domain: Text::from_slice(alloc, domain.as_str().as_bytes())?,
+        problem: Text::from_slice(alloc, problem.as_str().as_bytes())?,
+        budget,
+    }))
+}
+
+// What the words ask for, if they keep the rule.
+pub(crate) fn read_words(alloc: Global, words: &[String]) -> Result<Option<Request>, AllocError>
+    ensures value { IfOk result (λ request. request ≡ request_of (map string_bytes words.now)) }
+    ensures valid { IfOk result (λ request. IfSome request IsRequest) }
+{
+    match words {
+        [command, domain, problem, option, value]
+            if command.as_str() == "plan" && asks_for_goals(option.as_str(), value.as_str()) =>
+        {
+            plan_within(alloc, domain, problem, DEFAULT_BUDGET)
+        }
+        [command, domain, problem, limit, number, option, value]
+            if command.as_str() == "plan"
+                && limit.as_str() == "--budget"
+                && asks_for_goals(option.as_str(), value.as_str()) =>
+        {
+            match read_budget(number.as_bytes()) {
+                Some(budget) => plan_within(alloc, domain, problem, budget),
+                None => Ok(None),
+            }
+        }
+        _ => Ok(None),
+    }
+}

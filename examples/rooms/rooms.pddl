@@ -1,0 +1,8 @@
+(define (domain rooms)
+ (:predicates (room ?r) (ball ?b) (at-robot ?r) (at ?b ?r) (holding ?b) (free))
+ (:action move :parameters (?a ?b) :precondition (and (room ?a) (room ?b) (at-robot ?a))
+  :effect (and (at-robot ?b) (not (at-robot ?a))))
+ (:action pick :parameters (?b ?r) :precondition (and (ball ?b) (room ?r) (at ?b ?r) (at-robot ?r) (free))
+  :effect (and (holding ?b) (not (at ?b ?r)) (not (free))))
+ (:action drop :parameters (?b ?r) :precondition (and (ball ?b) (room ?r) (holding ?b) (at-robot ?r))
+  :effect (and (at ?b ?r) (free) (not (holding ?b)))))
