@@ -1,0 +1,14 @@
+pub mod Algebra
+pub mod Checks
+pub mod Comparisons
+pub mod DecimalValues
+pub mod Decimals
+pub mod Divisors
+pub mod Equality
+pub mod Operations
+pub mod Monotone
+pub mod OrderLaws
+pub mod Reduced
+pub mod Signed
+pub mod Texts
+pub mod Words

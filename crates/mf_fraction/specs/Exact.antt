@@ -1,7 +1,9 @@
 -- Exact fractions of any size: what each operation gives, with no limit on the numbers.
 use Rattle.std.specs.Prelude.{◌≡◌, ℕ, zero, suc, ◌*◌, ◌/◌, ◌<◌, ◌^◌, Bool, ◌&&◌, nat_le, ℤ, pos, negsuc, ◌+ℤ◌, ◌-ℤ◌, ◌*ℤ◌, neg_ℤ, unsigned_abs, int_lt, int_le, int_div, Option, Some, None}
 use Rattle.std.specs.Int.{int_signum}
-use Rattle.std.specs.Ordering.{int_eq}
+use Rattle.std.specs.declared.cmp.Ordering.{Ordering}
+use Rattle.std.specs.declared.cmp.Ordering.TheVariants.{Less, Equal, Greater}
+use Rattle.std.specs.Ordering.{int_cmp, int_eq}
 use Rattle.mf_fraction.specs.Gcd.{gcd}
 
 -- the fraction num / den
@@ -44,6 +46,9 @@ unfoldable pub negative_of : Number → Number
 negative_of a = record { num = neg_ℤ a.num; den = a.den }
 
 -- the order of the exact values, by cross products
+unfoldable pub order_of : Number → Number → Ordering
+order_of a b = int_cmp (a.num *ℤ pos b.den) (b.num *ℤ pos a.den)
+
 unfoldable pub is_below : Number → Number → Bool
 is_below a b = int_lt (a.num *ℤ pos b.den) (b.num *ℤ pos a.den)
 
@@ -56,6 +61,12 @@ is_same a b = int_eq (a.num *ℤ pos b.den) (b.num *ℤ pos a.den)
 -- -1, 0 or 1
 abbrev pub sign_of : Number → ℤ
 sign_of a = int_signum a.num
+
+-- the sign of a difference in that order
+abbrev pub sign_at : Ordering → ℤ
+sign_at Less = negsuc 0
+sign_at Equal = pos 0
+sign_at Greater = pos 1
 
 -- both parts are at most 2^62 in size
 unfoldable pub fits : Number → Bool

@@ -3,6 +3,24 @@
 //! Each operation gives the exact result in lowest terms, or says that it does not fit.
 #![tactic(auto)]
 
+mod arithmetic;
+mod decimal;
+mod divisor;
+mod faults;
 mod fraction;
+pub mod laws;
+mod lowest;
+mod negative;
+mod order;
+mod text;
 
+pub use arithmetic::{add, div, mul, sub};
+pub use decimal::read_decimal;
+pub use faults::{DivFault, Memory, NumberFault, Wide};
 pub use fraction::Frac;
+pub use negative::neg;
+pub use order::{cmp, sign};
+pub use text::write;
+
+#[cfg(test)]
+mod tests;

@@ -1,12 +1,15 @@
--- How the count of read faults goes with the log.
-use Rattle.std.proofs.Common.{◌≡◌, ℕ, ◌+◌, ◌<◌, ◌≤◌, Bool, true, false, cond, Option, Result, Ok, Err, List, [], ◌∷◌, ◌++◌, map, refl, sym, ap, ◌∙◌, arith, rules}
+-- What a load does to the count of read faults, and when a reader gave all of its bytes.
+use Rattle.std.proofs.Common.{◌≡◌, ℕ, ◌+◌, ◌<◌, ◌≤◌, true, false, cond, Option, Result, Ok, Err, List, [], ◌∷◌, ◌++◌, refl, arith, Some, None, IfSome, length, take, ap, ◌∙◌, inl, inr}
+use Rattle.std.proofs.lemmas.List.{take_all, length-take-le}
+use Rattle.std.proofs.lemmas.Bool.{cases_lt}
+use Rattle.std.specs.Option.{option_map}
 use Rattle.std.proofs.lemmas.List.Sums.{sum_by-append}
 use Rattle.mf_io.specs.declared.folder.Loading.{Loading}
 use Rattle.mf_io.specs.declared.folder.Loaded.{Loaded}
 use Rattle.mf_io.specs.declared.folder.Loaded.TheVariants.{Whole, TooLong}
 use Rattle.mf_io.specs.declared.folder.LoadFault.{LoadFault}
 use Rattle.mf_io.specs.declared.folder.LoadFault.TheVariants.{Failed, Memory}
-use Rattle.mf_io.specs.Folder.{Notes, Loads, read_faults, unfailed}
+use Rattle.mf_io.specs.Folder.{Notes, Loads, Reads, read_faults, unfailed}
 
 -- a log of loads that found their files has no read fault
 pub read_faults-unfailed : (names : List (List ℕ)) → read_faults (unfailed names) ≡ 0
@@ -36,3 +39,17 @@ Loads-counted held name most before after (Ok (Whole text)) l = let e = Notes-fo
 Loads-counted held name most before after (Ok TooLong) l = let e = Notes-found name before after l.1 in omega arith
 Loads-counted held name most before after (Err Failed) l = let e = Notes-failed name before after l in omega arith
 Loads-counted held name most before after (Err Memory) l = rw l (omega arith)
+
+-- A reader that gave at most one byte more than allowed gave all of its bytes, if it gave no more than allowed.
+pub Reads-whole : (held : Option (List ℕ)) (limit most : ℕ) (start bytes : List ℕ) → limit ≡ most + 1 → start ≡ [] → length bytes ≤ most →
+    IfSome (option_map (take limit) held) (λ given. bytes ≡ start ++ given) → Reads held most (Ok (Whole bytes))
+Reads-whole None limit most start bytes one_more empty fits given = (fits, tt)
+Reads-whole (Some all) limit most start bytes one_more empty fits given =
+    let front : bytes ≡ take limit all = given ∙ ap (λ xs. xs ++ take limit all) empty in
+    let same : length bytes ≡ length (take limit all) = ap length front in (
+      fits,
+      front ∙ take_all limit all (elim (cases_lt most (length all)) [
+        | inl more ↦ let full : length (take limit all) ≡ limit = length-take-le limit all (omega arith) in absurd (omega arith)
+        | inr few ↦ omega arith
+      ]),
+    )

@@ -1,5 +1,5 @@
 -- How puts that follow each other go together.
-use Rattle.std.proofs.Common.{◌≡◌, ℕ, ◌+◌, ◌-◌, ◌<◌, ◌≤◌, ◌⊎◌, Option, Some, None, List, [], ◌∷◌, ◌++◌, length, take, drop, sym, ◌∙◌, ap, refl, inl, inr, ⊎_elim, arith, rules, subst}
+use Rattle.std.proofs.Common.{ℕ, ◌+◌, ◌-◌, ◌≤◌, Option, Some, None, List, [], ◌++◌, length, take, drop, ap, refl, inl, inr, arith, rules}
 use Rattle.std.proofs.lemmas.List.{append_assoc, take_rest, length-drop, length-append, take-append-le}
 use Rattle.std.proofs.lemmas.Bool.{cases_lt}
 use Rattle.std.proofs.Math.Seq.{take-add, take-append-add, take-length}
@@ -64,9 +64,8 @@ AppendsFront-before xs ys before after (n, within, front) =
 -- all of the first bytes and a front part of the second are a front part of both
 pub AppendsFront-after : (xs ys : List ℕ) (first second third : Option (List ℕ)) →
     Appends xs first second → AppendsFront ys second third → AppendsFront (xs ++ ys) first third
-AppendsFront-after xs ys first second third x (n, within, front) =
-    (
-        length xs + n,
-        rw (length-append xs ys) (omega arith),
-        rw (take-append-add xs ys n) (Appends-join xs (take n ys) first second third x front)
-    )
+AppendsFront-after xs ys first second third x (n, within, front) = (
+  length xs + n,
+  rw (length-append xs ys) (omega arith),
+  rw (take-append-add xs ys n) (Appends-join xs (take n ys) first second third x front),
+)

@@ -1,5 +1,5 @@
 -- What a load answers, and what it leaves in the folder's log.
-use Rattle.std.specs.Prelude.{◌≡◌, ℕ, ◌+◌, ◌<◌, ◌≤◌, nat_le, Bool, true, false, if◌then◌else◌, Option, Result, Ok, Err, is_err, List, [], ◌∷◌, ◌++◌, length, map, find, IfSome, unwrap_or, count_by, bytes_eq}
+use Rattle.std.specs.Prelude.{◌≡◌, ℕ, ◌<◌, ◌≤◌, nat_le, Bool, true, false, if◌then◌else◌, Option, Result, Ok, Err, List, [], ◌∷◌, ◌++◌, length, map, find, IfSome, unwrap_or, count_by, bytes_eq}
 use Rattle.std.specs.Option.{option_map}
 use Rattle.mf_io.specs.declared.folder.Loading.{Loading}
 use Rattle.mf_io.specs.declared.folder.Loaded.{Loaded}

@@ -1,5 +1,5 @@
 -- What a sink in memory does at a put.
-use Rattle.std.specs.Prelude.{◌≡◌, ℕ, min, Bool, true, false, Result, Ok, Err, List, ◌++◌, length, take}
+use Rattle.std.specs.Prelude.{◌≡◌, ℕ, min, true, false, Result, Ok, Err, List, ◌++◌, length, take}
 use Rattle.mf_io.specs.declared.sink.PutFault.{PutFault}
 use Rattle.mf_io.specs.declared.sink.PutFault.TheVariants.{Failed, Memory}
 use Rattle.mf_io.specs.declared.memory_sink.MemorySink.{MemorySink}

@@ -1,7 +1,7 @@
-ghost use Rattle.std.specs.Prelude.{◌≡◌, ℕ, List, Option, Err};
+ghost use Rattle.std.specs.Prelude.{◌≡◌, ◌<◌, ℕ, List, Option, Err};
 ghost use Rattle.std.specs.Option.{option_copied};
 ghost use Rattle.mf_io.specs.declared.folder.Loading.{Loading};
-ghost use Rattle.mf_io.specs.Folder.{Loads, Noted, Answers, loaded_of, first_named};
+ghost use Rattle.mf_io.specs.Folder.{Loads, Noted, Answers, loaded_of, first_named, read_faults};
 
 use super::{List, Memory, Text};
 use std::alloc::Global;
@@ -57,6 +57,7 @@ pub trait Folder {
     /// Loads the file `name`, of at most `most` bytes.
     fn load(&mut self, alloc: Global, name: &str, most: usize) -> Result<Loaded, LoadFault>
         ensures answer { Loads (held self.old name.now) name.now most (log self.old) (log self.new) result }
+        ensures fault { result ≡ Err LoadFault.Failed → read_faults (log self.old) < read_faults (log self.new) }
         // What is held, and whether it is told, stays as it was under each name.
         ensures kept { held self.new ≡ held self.old }
         ensures memory { result ≡ Err LoadFault.Memory → self.new ≡ self.old };

@@ -9,6 +9,8 @@ mod memory_sink;
 mod real_folder;
 mod real_sink;
 mod sink;
+#[cfg(test)]
+mod tests;
 mod text;
 
 pub use folder::{Folder, LoadFault, Loaded, Loading};

@@ -72,8 +72,8 @@ impl<T: Drop> List<T> {
         Ok(())
     }
 
-    /// Makes room for one more item.
-    pub fn reserve_one(&mut self) -> Result<(), Memory>
+    // Makes room for one more item.
+    pub(crate) fn reserve_one(&mut self) -> Result<(), Memory>
         ensures { self.new ≡ self.old }
     {
         self.items.try_reserve(1)?;

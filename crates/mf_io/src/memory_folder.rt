@@ -2,8 +2,10 @@ use super::folder::{copy_of, find_file, note};
 use super::{Folder, List, LoadFault, Loaded, Loading, Text};
 use std::alloc::Global;
 
-/// A folder in memory, some of whose loads fail: those with the listed numbers, counted from 1 over all loads
-/// in its log, and those of a name that it doesn't hold. Of several files with one name it holds the first.
+/// A folder in memory, some of whose loads fail: those with the listed numbers, and those of a name that it
+/// doesn't hold. Of several files with one name it holds the first.
+///
+/// The loads in its log are numbered from 1; at the greatest `u64` the numbers stand still.
 #[derive(Debug, Drop)]
 pub struct MemoryFolder {
     files: List<(Text, Text)>,
@@ -43,8 +45,8 @@ impl MemoryFolder {
 }
 
 impl Folder for MemoryFolder {
-    ghost use Rattle.std.specs.Prelude.{◌≡◌, Err};
-    ghost use Rattle.mf_io.specs.Folder.{Loads, Answers, first_named};
+    ghost use Rattle.std.specs.Prelude.{◌≡◌, ◌<◌, Err};
+    ghost use Rattle.mf_io.specs.Folder.{Loads, Answers, first_named, read_faults};
     ghost use Rattle.mf_io.specs.MemoryFolder.{outcome_of};
 
     ghost held = { λ folder name. first_named folder.files name };
@@ -53,6 +55,7 @@ impl Folder for MemoryFolder {
 
     fn load(&mut self, alloc: Global, name: &str, most: usize) -> Result<Loaded, LoadFault>
         ensures answer { Loads (first_named self.old.files name.now) name.now most self.old.log self.new.log result }
+        ensures fault { result ≡ Err LoadFault.Failed → read_faults self.old.log < read_faults self.new.log }
         ensures kept { first_named self.new.files ≡ first_named self.old.files }
         ensures memory { result ≡ Err LoadFault.Memory → self.new ≡ self.old }
         ensures exact { Answers (outcome_of self.old name.now most) result }

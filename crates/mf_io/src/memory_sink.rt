@@ -4,7 +4,8 @@ use super::{List, PutFault, Sink, Text};
 use std::alloc::Global;
 
 /// A sink in memory that takes at most a chunk at a put, and whose puts with the listed numbers fail.
-/// Puts are numbered from 1; want of memory is no put. At the greatest `u64` numbers and counts stand still.
+///
+/// Puts are numbered from 1, but for those that wanted memory; at the greatest `u64` numbers and counts stand still.
 #[derive(Debug, Drop)]
 pub struct MemorySink {
     chunk: usize,

@@ -1,4 +1,4 @@
-ghost use Rattle.std.specs.Prelude.{◌≡◌, ◌≤◌, length, None};
+ghost use Rattle.std.specs.Prelude.{◌≡◌, ◌<◌, ◌^◌, ◌-◌, None};
 ghost use Rattle.mf_io.specs.Folder.{Reads};
 
 use super::folder::note;
@@ -7,9 +7,6 @@ use std::alloc::Global;
 use std::fs;
 use std::io::{ErrorKind, Read};
 use std::rt::Files;
-
-// How many bytes one read asks for.
-const CHUNK: usize = 16_384;
 
 /// The files of the system. It tells no bytes, and keeps the log of its loads.
 #[derive(Drop)]
@@ -40,32 +37,28 @@ impl<'a, R: Files> Folder for RealFolder<'a, R> {
     ghost log = { λ folder. folder.log };
 
     fn load(&mut self, alloc: Global, name: &str, most: usize) -> Result<Loaded, LoadFault> {
+        // The room in the log is made before the file is opened.
         let copy = Text::from_slice(alloc, name.as_bytes())?;
         self.log.reserve_one()?;
         let outcome = match fs::open(self.files, name) {
-            Ok(mut file) => read_whole(alloc, &mut file, most),
+            Ok(file) => read_whole(alloc, file, most),
             Err(_) => Err(LoadFault::Failed),
         };
         note(&mut self.log, copy, outcome)
     }
 }
 
-// Reads all bytes, but stops where there are more than allowed.
-fn read_whole<F: Read>(alloc: Global, file: &mut F, most: usize) -> Result<Loaded, LoadFault>
-    ensures { Reads None most result }
+// Reads all bytes that the reader has left, but at most one more than allowed, which tells that there are too many.
+fn read_whole<F: Read + Drop>(alloc: Global, reader: F, most: usize) -> Result<Loaded, LoadFault>
+    ensures bound { Reads None most result }
+    ensures bytes { most < 2 ^ 64 - 1 → Reads (F.remaining reader) most result }
 {
-    let mut bytes = Text::new(alloc);
-    let mut chunk = [0; CHUNK];
-    for _ in 0..u64::MAX {
-        let left = most - bytes.len();
-        let wanted = left.saturating_add(1).min(CHUNK);
-        match file.read(&mut chunk[..wanted]) {
-            Ok(0) => return Ok(Loaded::Whole(bytes)),
-            Ok(n) if n > left => return Ok(Loaded::TooLong),
-            Ok(n) => bytes.extend_from_slice(&chunk[..n])?,
-            Err(error) if error.kind() == ErrorKind::Interrupted => {}
-            Err(_) => return Err(LoadFault::Failed),
-        }
+    let limit = (most as u64).saturating_add(1);
+    let mut bytes = Vec::new(alloc);
+    match reader.take(limit).read_to_end(&mut bytes) {
+        Ok(_) if bytes.len() > most => Ok(Loaded::TooLong),
+        Ok(_) => Ok(Loaded::Whole(Text::from_vec(bytes))),
+        Err(error) if error.kind() == ErrorKind::OutOfMemory => Err(LoadFault::Memory),
+        Err(_) => Err(LoadFault::Failed),
     }
-    Err(LoadFault::Failed)
 }

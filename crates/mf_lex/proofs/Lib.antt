@@ -8,3 +8,4 @@ pub mod Counts
 pub mod OneByte
 pub mod Growing
 pub mod Whole
+pub mod Places

@@ -103,10 +103,10 @@ firsts : (ps : List ((t : Tree) × Grows t)) → Each (map (λ p. p.0) ps)
 firsts [] = tt
 firsts (p ∷ ps) = (p.1, firsts ps)
 
-rolled_leaf : (kind : Kind) (text : List ℕ) (span : Span) → Leaf kind text span ≡ roll-Tree (Tree-F.Leaf kind text span)
+pub rolled_leaf : (kind : Kind) (text : List ℕ) (span : Span) → Leaf kind text span ≡ roll-Tree (Tree-F.Leaf kind text span)
 rolled_leaf kind text span = search (rules, the_lemmas)
 
-rolled_branch : (items : List Tree) (span : Span) → Branch items span ≡ roll-Tree (Tree-F.Branch items span)
+pub rolled_branch : (items : List Tree) (span : Span) → Branch items span ≡ roll-Tree (Tree-F.Branch items span)
 rolled_branch items span = search (rules, the_lemmas)
 
 grow_layer : (y : Tree-F ((t : Tree) × Grows t)) → Grows (roll-Tree (map-Tree ((t : Tree) × Grows t) Tree (λ e. e.0) y))

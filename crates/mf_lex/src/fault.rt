@@ -1,10 +1,8 @@
-ghost use Rattle.std.specs.Prelude.{◌≡◌};
-
 use std::alloc::{AllocError, AllocFailed};
 use thiserror::Error;
 
 /// Why a file has no tokens. A place is a byte offset from the start of the file.
-#[derive(Debug, Drop, Error)]
+#[derive(Clone, Copy, Debug, PartialEq, Eq, Error)]
 pub enum LexFault {
     /// A byte outside comments that is no blank, no bracket and not 33 to 126.
     #[error("a byte that may not stand in a file, at {at}")]
@@ -28,7 +26,7 @@ impl From<AllocError> for LexFault {
 }
 
 /// Why the tokens of a file are not those of one list.
-#[derive(Debug, Drop, Error)]
+#[derive(Clone, Copy, Debug, PartialEq, Eq, Error)]
 pub enum TreeFault {
     /// The first token outside the list, or the length of the file where its list isn't closed.
     #[error("the brackets do not pair, at {at}")]

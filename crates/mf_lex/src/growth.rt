@@ -14,7 +14,7 @@ use std::alloc::{AllocError, Global};
 #[derive(Drop)]
 pub struct Frame {
     pub start: u32,
-    pub items: Items<Tree>,
+    pub items: List<Tree>,
 }
 
 /// What a token leads to: the innermost open list, or the whole tree.
@@ -53,7 +53,7 @@ fn new_frame(alloc: Global, token: &Token) -> Frame
 {
     Frame {
         start: token.span.start,
-        items: Items::new(alloc),
+        items: List::new(alloc),
     }
 }
 
@@ -165,8 +165,10 @@ fn closed(frame: Frame, token: &Token) -> Tree
     ensures { result ≡ closed frame token.now }
 {
     let Frame { start, items } = frame;
+    let mut items = items.into_vec();
+    items.shrink_to_fit();
     Tree::Branch {
-        items,
+        items: Items::from_vec(items),
         span: Span {
             start,
             end: token.span.end,

@@ -1,6 +1,6 @@
 ghost use Rattle.std.specs.Prelude.{◌≡◌, List, ℕ};
 ghost use Rattle.mf_model.specs.Tokens.{IsTokens, BadByteAt, TooLongAt};
-ghost use Rattle.mf_model.specs.Trees.{IsTreeOf};
+ghost use Rattle.mf_model.specs.Trees.{IsPlaced, IsTreeOf};
 ghost use Rattle.mf_model.specs.declared.token.Token.{Token};
 ghost use Rattle.mf_model.specs.declared.tree.Tree.{Tree};
 
@@ -17,4 +17,9 @@ pub fn tokens_have_no_fault()
 /// A file has one tree at most.
 pub fn tree_is_unique()
     ensures { (source : List ℕ) (left right : Tree) → IsTreeOf source left → IsTreeOf source right → left ≡ right }
+{}
+
+/// The items of each list stand between its brackets, one behind the other.
+pub fn spans_are_nested()
+    ensures { (source : List ℕ) (tree : Tree) → IsTreeOf source tree → IsPlaced tree }
 {}

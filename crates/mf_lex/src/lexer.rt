@@ -15,9 +15,13 @@ pub enum Piece {
     Next(Token),
 }
 
+/// The tokens of a file of at most 16,777,216 bytes, in order. Between them stand only blanks and
+/// comments. Names, variables and keywords are those of PDDL 2.1 (Fox and Long, JAIR 2003).
+///
+/// # Errors
+///
+/// `BadByte` and `TooLong`, whichever has the least place; then the file has no tokens.
 #[tactic(auto, using(crate::proofs::Steps::begin, crate::proofs::Steps::all_read, crate::proofs::Unique::none))]
-/// The tokens of a file in order. Between them stand only blanks and comments. The fault of least
-/// place is answered.
 pub fn tokens(alloc: Global, source: &[u8]) -> Result<Tokens, LexFault>
     requires { length source.now ≤ 16777216 }
     ensures tokens_are { IfOk result (λ it. IsTokens source.now it.list) }

@@ -12,6 +12,6 @@ mod tests;
 mod words;
 
 pub use fault::{LexFault, TreeFault};
-pub use laws::{tokens_are_unique, tokens_have_no_fault, tree_is_unique};
+pub use laws::{spans_are_nested, tokens_are_unique, tokens_have_no_fault, tree_is_unique};
 pub use lexer::tokens;
 pub use lists::tree;

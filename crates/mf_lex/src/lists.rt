@@ -8,8 +8,12 @@ use crate::growth::grown_tree;
 use mf_model::{Tokens, Tree};
 use std::alloc::Global;
 
-/// The tree of a file that is one list. The texts of its words are folded to lower case. The first
-/// fault in the file is answered.
+/// The tree of a file that is one list, from the file's tokens. The texts of its words are folded to
+/// lower case.
+///
+/// # Errors
+///
+/// `Unbalanced` and `TooDeep`, whichever comes first in the file; then the file has no tree.
 pub fn tree(alloc: Global, source: &[u8], tokens: &Tokens) -> Result<Tree, TreeFault>
     requires tokens_are { IsTokens source.now tokens.now.list }
     requires length { tokens.now.length ≡ length source.now }

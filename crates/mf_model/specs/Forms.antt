@@ -1,7 +1,7 @@
 -- The grammar of domains and problems: which form a tree is, row by row (PDDL 2.1: Fox and Long, JAIR
 -- 2003, appendix A). Here stand the rows of untyped files whose conditions are atoms and conjunctions of
 -- atoms, and whose effects add and delete atoms.
-use Rattle.std.specs.Prelude.{◌≡◌, ◌≢◌, ℕ, Bool, true, false, ◌⊎◌, Option, Some, None, List, [], ◌∷◌, ◌++◌, codes}
+use Rattle.std.specs.Prelude.{◌≡◌, ◌≢◌, ℕ, false, ◌⊎◌, Option, Some, None, List, [], ◌∷◌, ◌++◌, codes}
 use Rattle.std.specs.List.{list_any, AllByRecursion}
 use Rattle.std.specs.Str.{bytes_eq}
 use Rattle.mf_model.specs.declared.token.Kind.{Kind}

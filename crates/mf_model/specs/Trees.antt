@@ -5,7 +5,7 @@ use Rattle.mf_model.specs.declared.token.Span.{Span}
 use Rattle.mf_model.specs.declared.token.Token.{Token}
 use Rattle.mf_model.specs.declared.token.Kind.{Kind}
 use Rattle.mf_model.specs.declared.token.Kind.TheVariants.{Left, Right, Name, Variable, Keyword, Number, Sign, Plain}
-use Rattle.mf_model.specs.declared.tree.Tree.{Tree, fold-Tree}
+use Rattle.mf_model.specs.declared.tree.Tree.{Tree, fold-Tree, rec-Tree}
 use Rattle.mf_model.specs.declared.tree.Tree.TheOpen.{Tree-F}
 use Rattle.mf_model.specs.Tokens.{IsTokens, text_of}
 
@@ -69,6 +69,30 @@ pub record IsTreeOf (source : List ℕ) (tree : Tree) : Type 0 where
   pub shallow : depth tree ≤ 256
   pub words : All (IsWordOf source) (words tree)
   pub tokens : IsTokens source (flat tree)
+
+-- ---- places
+
+abbrev pub span_step : Tree-F Span → Span
+span_step (Tree-F.Leaf kind text span) = span
+span_step (Tree-F.Branch items span) = span
+
+abbrev pub span_of : Tree → Span
+span_of = fold-Tree Span span_step
+
+-- the items stand one behind the other, from a place up to another
+abbrev pub InRow : (X : Type 0) → (X → Span) → (X → Type 0) → ℕ → List X → ℕ → Type 0
+InRow X span IsPart from [] to = from ≤ to
+InRow X span IsPart from (x ∷ xs) to =
+    (from ≤ (span x).start) × IsPart x × InRow X span IsPart (span x).end xs to
+
+abbrev pub placed_form : (X : Type 0) → (X → Tree) → (X → Type 0) → Tree-F X → Type 0
+placed_form X tree IsPart (Tree-F.Leaf kind text span) = span.start < span.end
+placed_form X tree IsPart (Tree-F.Branch items span) =
+    (span.start < span.end) × InRow X (λ x. span_of (tree x)) IsPart (span.start + 1) items (span.end - 1)
+
+-- spans are nested and in a row: the items of a list stand between its brackets, in order
+abbrev pub IsPlaced : Tree → Type 0
+IsPlaced = rec-Tree (Type 0) placed_form
 
 -- ---- faults
 

@@ -24,3 +24,6 @@ pub use text::Text;
 pub use token::{Kind, Span, Token, Tokens};
 pub use tree::Tree;
 pub use truth::Truth;
+
+#[cfg(test)]
+mod tests;

@@ -4,3 +4,12 @@ pub mod Arguments
 pub mod ConjunctionLaws
 pub mod EffectLaws
 pub mod Applicable
+pub mod Values
+pub mod LeastOpen
+pub mod Marks
+pub mod Advancing
+pub mod Starting
+pub mod Bridge
+pub mod Lawful
+pub mod TraceLaws
+pub mod OpeningChildren

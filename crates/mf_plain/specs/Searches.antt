@@ -6,7 +6,7 @@ use Rattle.mf_model.specs.declared.state.PlainState.{PlainState}
 use Rattle.mf_model.specs.Application.{instances_of}
 use Rattle.mf_model.specs.Plans.{IsPlan}
 use Rattle.mf_search.specs.declared.status.Status.TheVariants.{Plan}
-use Rattle.mf_search.specs.World.{Opened, Legal, World, world}
+use Rattle.mf_search.specs.World.{Opened, Legal, World, takes, world}
 use Rattle.mf_search.specs.Rebuilt.{states_of}
 use Rattle.mf_search.specs.Answers.{Answers, plan_to}
 use Rattle.mf_plain.specs.declared.history.History.{History}
@@ -33,7 +33,7 @@ pub record IsSearched (task : TypedTask) (budget : ℕ) (searched : Searched) : 
 
 -- The states that a history takes, in order.
 abbrev pub taken_states : TypedTask → History → List PlainState
-taken_states task history = states_of (space_of task) (world_of task history).opened (world_of task history).taken
+taken_states task history = states_of (space_of task) (world_of task history).opened (takes history.entries)
 
 -- The steps are the kept instances from the start to the goal that was taken, by the makers.
 pub record IsTrace (task : TypedTask) (searched : Searched) (steps : List Instance) : Type 0 where

@@ -30,7 +30,7 @@ fn deletes(effect: &Effect, binding: &[u16], atom: &Atom) -> bool
     }
 }
 
-fn copy_atom(alloc: Global, atom: &Atom) -> Result<Atom, Memory>
+pub(crate) fn copy_atom(alloc: Global, atom: &Atom) -> Result<Atom, Memory>
     ensures { IfOk result (λ copy. copy ≡ atom.now) }
 {
     Ok(Atom {

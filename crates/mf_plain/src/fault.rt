@@ -49,3 +49,13 @@ impl<T: Drop> From<AllocFailed<T>> for TraceFault {
         TraceFault::Memory
     }
 }
+
+impl From<Memory> for TraceFault {
+    ghost use Rattle.mf_plain.specs.declared.fault.TraceFault.TheVariants as fault;
+
+    ghost from_gives = { λ _ e. e ≡ fault.Memory };
+
+    fn from(_: Memory) -> TraceFault {
+        TraceFault::Memory
+    }
+}

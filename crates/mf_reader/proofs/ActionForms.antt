@@ -119,14 +119,24 @@ action_sound t a span (head ∷ parts) is e =
     let made = with_sound span one.0 slots a two.2 in
     let turns = turns_of parts test.0 in
     record {
-      name = head; rest = parts; span = span; list = is;
+      name = head;
+      rest = parts;
+      span = span;
+      list = is;
       named = subst (λ (v : Word). IsName v head) made.0 (name_reads.sound head one.0 one.1);
-      parts = turns.0; turns = turns.1; keys = turns.2;
-      parameters_part = slots.parameters; condition_part = slots.condition; effect_part = slots.effect;
+      parts = turns.0;
+      turns = turns.1;
+      keys = turns.2;
+      parameters_part = slots.parameters;
+      condition_part = slots.condition;
+      effect_part = slots.effect;
       parameters_stand = value_sound (codes ":parameters") turns.0 parts slots.parameters turns.1 stand.parameters;
       condition_stands = value_sound (codes ":precondition") turns.0 parts slots.condition turns.1 stand.condition;
       effect_stands = value_sound (codes ":effect") turns.0 parts slots.effect turns.1 stand.effect;
-      parameters = made.1.parameters; condition = made.1.condition; effect = made.1.effect; }
+      parameters = made.1.parameters;
+      condition = made.1.condition;
+      effect = made.1.effect;
+    }
 
 action_complete : (t : Tree) (a : RawAction) (h : IsAction a t) → action_items h.span (h.name ∷ h.rest) ≡ Some a
 unfolding action_items rest_of
@@ -135,11 +145,12 @@ action_complete t a h =
     bind_is (name_of h.name) (rest_of h.span h.rest) a.word a (name_reads.complete h.name a.word h.named)
     (is_when (are_parts h.rest) (slots_of h.rest >>= (λ slots. action_with h.span a.word slots)) (turns_are h.parts h.rest h.turns h.keys)
     ∙ bind_is (slots_of h.rest) (λ slots. action_with h.span a.word slots) slots a
-      (slots_complete h.rest slots (record {
-        parameters = value_complete (codes ":parameters") h.parts h.rest h.parameters_part h.turns h.parameters_stand;
-        condition = value_complete (codes ":precondition") h.parts h.rest h.condition_part h.turns h.condition_stands;
-        effect = value_complete (codes ":effect") h.parts h.rest h.effect_part h.turns h.effect_stands }))
-      (with_complete h.span slots a (record { parameters = h.parameters; condition = h.condition; effect = h.effect })))
+    (slots_complete h.rest slots (record {
+      parameters = value_complete (codes ":parameters") h.parts h.rest h.parameters_part h.turns h.parameters_stand;
+      condition = value_complete (codes ":precondition") h.parts h.rest h.condition_part h.turns h.condition_stands;
+      effect = value_complete (codes ":effect") h.parts h.rest h.effect_part h.turns h.effect_stands;
+    }))
+    (with_complete h.span slots a (record { parameters = h.parameters; condition = h.condition; effect = h.effect })))
 
 -- The actions among the sections
 
@@ -181,7 +192,8 @@ actions_sound (t ∷ ts) actions e =
 pub actions_complete : (ts : List Tree) (actions : List RawAction) → AreActions actions ts → actions_of ts ≡ Some actions
 actions_complete [] actions h = ap Some (sym h)
 actions_complete (t ∷ ts) actions h = elim h [
-      inl rest ↦ bind_is (action_in t) (more ts) None actions (in_complete t None rest.0)
-        (bind_is (actions_of ts) (λ others. Some (option_to_list {X = RawAction} None ++ others)) actions actions (actions_complete ts actions rest.1) refl)
-    | inr first ↦ bind_is (action_in t) (more ts) (Some first.0) actions (in_complete t (Some first.0) first.3)
-        (bind_is (actions_of ts) (λ others. Some (option_to_list (Some first.0) ++ others)) first.1 actions (actions_complete ts first.1 first.4) (ap Some (sym first.2))) ]
+  | inl rest ↦ bind_is (action_in t) (more ts) None actions (in_complete t None rest.0)
+      (bind_is (actions_of ts) (λ others. Some (option_to_list {X = RawAction} None ++ others)) actions actions (actions_complete ts actions rest.1) refl)
+  | inr first ↦ bind_is (action_in t) (more ts) (Some first.0) actions (in_complete t (Some first.0) first.3)
+      (bind_is (actions_of ts) (λ others. Some (option_to_list (Some first.0) ++ others)) first.1 actions (actions_complete ts first.1 first.4) (ap Some (sym first.2)))
+]

@@ -90,11 +90,12 @@ no_key key t p ts span listed h = unheaded key t p h.head h.parts span listed h.
 
 cond_complete : (t : Tree) (raw : RawCond) → IsCond raw t → cond_of t ≡ Some raw
 cond_complete t raw h = elim h [
-      inl conjunction ↦
-        ap (λ found. cond_by found t) (behind_complete (codes "and") t conjunction.headed conjunction.list)
-        ∙ bind_is (each atom_cond_of conjunction.headed.parts) (λ parts. Some (c.And parts conjunction.headed.span)) conjunction.parts raw (each_complete atom_cond_reads conjunction.headed.parts conjunction.parts conjunction.atoms) (ap Some (sym conjunction.is))
-    | inr atom ↦
-        ap (λ found. cond_by found t) (no_key (codes "and") t atom.predicate atom.terms atom.span refl atom.atom) ∙ atom_cond_complete t raw atom ]
+  | inl conjunction ↦
+      ap (λ found. cond_by found t) (behind_complete (codes "and") t conjunction.headed conjunction.list)
+      ∙ bind_is (each atom_cond_of conjunction.headed.parts) (λ parts. Some (c.And parts conjunction.headed.span)) conjunction.parts raw (each_complete atom_cond_reads conjunction.headed.parts conjunction.parts conjunction.atoms) (ap Some (sym conjunction.is))
+  | inr atom ↦
+      ap (λ found. cond_by found t) (no_key (codes "and") t atom.predicate atom.terms atom.span refl atom.atom) ∙ atom_cond_complete t raw atom
+]
 
 pub cond_reads : Reads cond_of IsCond
 cond_reads = record { sound = λ t raw h. cond_sound t raw (behind (codes "and") t) refl h; complete = cond_complete }
@@ -131,8 +132,9 @@ literal_sound t raw (Some b) is h = inl (deleted_sound t raw b.parts b.span (beh
 
 literal_complete : (t : Tree) (raw : RawEffect) → IsLiteral raw t → literal_of t ≡ Some raw
 literal_complete t raw h = elim h [
-      inl deleted ↦ deleted_complete t raw deleted
-    | inr added ↦ ap (λ found. literal_by found t) (no_key (codes "not") t added.predicate added.terms added.span refl added.atom) ∙ added_complete t raw added ]
+  | inl deleted ↦ deleted_complete t raw deleted
+  | inr added ↦ ap (λ found. literal_by found t) (no_key (codes "not") t added.predicate added.terms added.span refl added.atom) ∙ added_complete t raw added
+]
 
 pub literal_reads : Reads literal_of IsLiteral
 literal_reads = record { sound = λ t raw h. literal_sound t raw (behind (codes "not") t) refl h; complete = literal_complete }
@@ -145,12 +147,14 @@ effect_sound t raw (Some b) is h =
 
 effect_complete : (t : Tree) (raw : RawEffect) → IsEffect raw t → effect_of t ≡ Some raw
 effect_complete t raw h = elim h [
-      inl group ↦
-        ap (λ found. effect_by found t) (behind_complete (codes "and") t group.headed group.list)
-        ∙ bind_is (each literal_of group.headed.parts) (λ parts. Some (e.Group parts group.headed.span)) group.parts raw (each_complete literal_reads group.headed.parts group.parts group.literals) (ap Some (sym group.is))
-    | inr literal ↦ ap (λ found. effect_by found t) (elim literal [
-          inl deleted ↦ one_head (codes "not") (codes "and") t (record { parts = deleted.part ∷ []; span = deleted.span }) refl deleted.list
-        | inr added ↦ no_key (codes "and") t added.predicate added.terms added.span refl added.atom ]) ∙ literal_reads.complete t raw literal ]
+  | inl group ↦
+      ap (λ found. effect_by found t) (behind_complete (codes "and") t group.headed group.list)
+      ∙ bind_is (each literal_of group.headed.parts) (λ parts. Some (e.Group parts group.headed.span)) group.parts raw (each_complete literal_reads group.headed.parts group.parts group.literals) (ap Some (sym group.is))
+  | inr literal ↦ ap (λ found. effect_by found t) (elim literal [
+    | inl deleted ↦ one_head (codes "not") (codes "and") t (record { parts = deleted.part ∷ []; span = deleted.span }) refl deleted.list
+    | inr added ↦ no_key (codes "and") t added.predicate added.terms added.span refl added.atom
+  ]) ∙ literal_reads.complete t raw literal
+]
 
 pub effect_reads : Reads effect_of IsEffect
 effect_reads = record { sound = λ t raw h. effect_sound t raw (behind (codes "and") t) refl h; complete = effect_complete }

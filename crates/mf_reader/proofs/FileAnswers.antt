@@ -73,8 +73,10 @@ cause_in_domain domain_source problem_source Memory none = tt
 
 pub cause_in_problem : (domain_source problem_source : List ℕ) (domain : Domain) (why : Refusal) → IsBuiltDomainFile domain_source domain → Lacks why (IsTaskWith domain problem_source) → IsCause domain_source problem_source (fault_in ProblemFile why)
 cause_in_problem domain_source problem_source domain Refused is none = record {
-    domain = domain; domain_file = is;
-    none = λ task h. none task (record { problem = h.problem; problem_file = h.problem_file; task_of = subst (λ (d : Domain). IsTaskOf d h.problem task) (domains_same domain_source h.domain domain h.domain_file is) h.task_of }) }
+  domain = domain;
+  domain_file = is;
+  none = λ task h. none task (record { problem = h.problem; problem_file = h.problem_file; task_of = subst (λ (d : Domain). IsTaskOf d h.problem task) (domains_same domain_source h.domain domain h.domain_file is) h.task_of });
+}
 cause_in_problem domain_source problem_source domain Memory is none = tt
 
 pub task_there : (domain_source problem_source : List ℕ) (domain : Domain) (task : TypedTask) → IsBuiltDomainFile domain_source domain → IsTaskWith domain problem_source task → IsTaskOfFiles domain_source problem_source task
@@ -85,4 +87,4 @@ tasks_same domain_source problem_source one other h k =
     let d = domains_same domain_source h.domain k.domain h.domain_file k.domain_file in
     let p = problems_same problem_source h.problem k.problem h.problem_file k.problem_file in
     some_is one other (sym (task_complete h.domain h.problem one h.task_of)
-      ∙ (ap (λ (x : Domain). task_of x h.problem) d ∙ (ap (λ (x : Problem). task_of k.domain x) p ∙ task_complete k.domain k.problem other k.task_of)))
+    ∙ (ap (λ (x : Domain). task_of x h.problem) d ∙ (ap (λ (x : Problem). task_of k.domain x) p ∙ task_complete k.domain k.problem other k.task_of)))

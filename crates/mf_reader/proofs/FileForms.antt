@@ -75,24 +75,29 @@ all_complete test each_is (t ∷ ts) h = ap (λ b. b && list_all test ts) (each_
 domain_section_sound : (t : Tree) → is_domain_section t ≡ true → IsDomainSection t
 unfolding is_domain_section
 domain_section_sound t e = elim (either_true (is_section (codes ":predicates") t) (is_section (codes ":action") t) e) [
-      inl a ↦ inl (section_sound (codes ":predicates") t a)
-    | inr b ↦ inr (section_sound (codes ":action") t b) ]
+  | inl a ↦ inl (section_sound (codes ":predicates") t a)
+  | inr b ↦ inr (section_sound (codes ":action") t b)
+]
 
 domain_section_complete : (t : Tree) → IsDomainSection t → is_domain_section t ≡ true
 unfolding is_domain_section
 domain_section_complete t h = elim h [
-      inl a ↦ or_left (is_section (codes ":predicates") t) (is_section (codes ":action") t) (section_complete (codes ":predicates") t a)
-    | inr b ↦ or_right (is_section (codes ":predicates") t) (is_section (codes ":action") t) (section_complete (codes ":action") t b) ]
+  | inl a ↦ or_left (is_section (codes ":predicates") t) (is_section (codes ":action") t) (section_complete (codes ":predicates") t a)
+  | inr b ↦ or_right (is_section (codes ":predicates") t) (is_section (codes ":action") t) (section_complete (codes ":action") t b)
+]
 
 problem_section_sound : (t : Tree) → is_problem_section t ≡ true → IsProblemSection t
 unfolding is_problem_section
 problem_section_sound t e = elim (either_true (is_section (codes ":domain") t) _ e) [
-      inl a ↦ inl (section_sound (codes ":domain") t a)
-    | inr rest ↦ elim (either_true (is_section (codes ":objects") t) _ rest) [
-          inl b ↦ inr (inl (section_sound (codes ":objects") t b))
-        | inr last ↦ elim (either_true (is_section (codes ":init") t) (is_section (codes ":goal") t) last) [
-              inl d ↦ inr (inr (inl (section_sound (codes ":init") t d)))
-            | inr g ↦ inr (inr (inr (section_sound (codes ":goal") t g))) ] ] ]
+  | inl a ↦ inl (section_sound (codes ":domain") t a)
+  | inr rest ↦ elim (either_true (is_section (codes ":objects") t) _ rest) [
+    | inl b ↦ inr (inl (section_sound (codes ":objects") t b))
+    | inr last ↦ elim (either_true (is_section (codes ":init") t) (is_section (codes ":goal") t) last) [
+      | inl d ↦ inr (inr (inl (section_sound (codes ":init") t d)))
+      | inr g ↦ inr (inr (inr (section_sound (codes ":goal") t g)))
+    ]
+  ]
+]
 
 abbrev init_or_goal : Tree → Bool
 init_or_goal t = is_section (codes ":init") t || is_section (codes ":goal") t
@@ -103,12 +108,15 @@ objects_or_later t = is_section (codes ":objects") t || init_or_goal t
 problem_section_complete : (t : Tree) → IsProblemSection t → is_problem_section t ≡ true
 unfolding is_problem_section
 problem_section_complete t h = elim h [
-      inl a ↦ or_left (is_section (codes ":domain") t) (objects_or_later t) (section_complete (codes ":domain") t a)
-    | inr rest ↦ or_right (is_section (codes ":domain") t) (objects_or_later t) (elim rest [
-          inl b ↦ or_left (is_section (codes ":objects") t) (init_or_goal t) (section_complete (codes ":objects") t b)
-        | inr last ↦ or_right (is_section (codes ":objects") t) (init_or_goal t) (elim last [
-              inl d ↦ or_left (is_section (codes ":init") t) (is_section (codes ":goal") t) (section_complete (codes ":init") t d)
-            | inr g ↦ or_right (is_section (codes ":init") t) (is_section (codes ":goal") t) (section_complete (codes ":goal") t g) ]) ]) ]
+  | inl a ↦ or_left (is_section (codes ":domain") t) (objects_or_later t) (section_complete (codes ":domain") t a)
+  | inr rest ↦ or_right (is_section (codes ":domain") t) (objects_or_later t) (elim rest [
+    | inl b ↦ or_left (is_section (codes ":objects") t) (init_or_goal t) (section_complete (codes ":objects") t b)
+    | inr last ↦ or_right (is_section (codes ":objects") t) (init_or_goal t) (elim last [
+      | inl d ↦ or_left (is_section (codes ":init") t) (is_section (codes ":goal") t) (section_complete (codes ":init") t d)
+      | inr g ↦ or_right (is_section (codes ":init") t) (is_section (codes ":goal") t) (section_complete (codes ":goal") t g)
+    ])
+  ])
+]
 
 -- Items of sections
 
@@ -177,11 +185,20 @@ items_sound t d span (title ∷ sections) is e =
     let test = when_true (list_all is_domain_section sections) (domain_sections one.0 sections) d one.2 in
     let h = sections_sound one.0 sections d test.1 in
     record {
-      title = title; sections = sections; span = span; list = is;
+      title = title;
+      sections = sections;
+      span = span;
+      list = is;
       named = subst (λ (name : List ℕ). IsNamed (codes "domain") name title) h.named (title_sound (codes "domain") one.0 title one.1);
       known = all_sound is_domain_section domain_section_sound sections test.0;
-      predicates_section = h.predicates_section; predicates_stand = h.predicates_stand; predicates = h.predicates;
-      actions = h.actions; types = h.types; constants = h.constants; functions = h.functions; }
+      predicates_section = h.predicates_section;
+      predicates_stand = h.predicates_stand;
+      predicates = h.predicates;
+      actions = h.actions;
+      types = h.types;
+      constants = h.constants;
+      functions = h.functions;
+    }
 
 pub domain_sound : (t : Tree) (d : Domain) → domain_of t ≡ Some d → IsDomain d t
 domain_sound t d e =
@@ -194,8 +211,8 @@ domain_complete t d h =
     (bind_is (title_of (codes "domain") h.title) (domain_rest h.sections) d.name d (title_complete (codes "domain") d.name h.title h.named)
     (is_when (list_all is_domain_section h.sections) (domain_sections d.name h.sections) (all_complete is_domain_section domain_section_complete h.sections h.known)
     ∙ bind_is (only_under (codes ":predicates") h.sections) (λ b. predicates_of b >>= (λ predicates. actions_of h.sections >>= (λ actions. Some (domain_with d.name predicates actions)))) h.predicates_section d (only_complete (codes ":predicates") h.sections h.predicates_section h.predicates_stand)
-      (bind_is (predicates_of h.predicates_section) (λ predicates. actions_of h.sections >>= (λ actions. Some (domain_with d.name predicates actions))) d.predicates d (predicates_complete d.predicates h.predicates_section h.predicates)
-      (bind_is (actions_of h.sections) (λ actions. Some (domain_with d.name d.predicates actions)) d.actions d (actions_complete h.sections d.actions h.actions) (ap Some (domain_is d h.types h.constants h.functions))))))
+    (bind_is (predicates_of h.predicates_section) (λ predicates. actions_of h.sections >>= (λ actions. Some (domain_with d.name predicates actions))) d.predicates d (predicates_complete d.predicates h.predicates_section h.predicates)
+    (bind_is (actions_of h.sections) (λ actions. Some (domain_with d.name d.predicates actions)) d.actions d (actions_complete h.sections d.actions h.actions) (ap Some (domain_is d h.types h.constants h.functions))))))
 
 -- Problems
 
@@ -265,10 +282,20 @@ parts_sound name sections p e =
     let stands : IsSection (codes ":goal") (Some goal.0) sections = subst (λ (v : Option Headed). IsSection (codes ":goal") v sections) goal.1 (only_sound (codes ":goal") sections five.0 five.1) in
     let here : ProblemParts name sections (problem_with name two.0 four.0 six.0) = record {
       named = refl;
-      objects_section = one.0; objects_stand = only_sound (codes ":objects") sections one.0 one.1; objects = objects_sound two.0 one.0 two.1;
-      init_section = three.0; init_stands = only_sound (codes ":init") sections three.0 three.1; atoms = init_sound four.0 three.0 four.1;
-      goal_section = goal.0; goal_stands = stands; goal_tree = goal.2; goal_alone = goal.3; goal = goal.4;
-      values = refl; metric = refl } in
+      objects_section = one.0;
+      objects_stand = only_sound (codes ":objects") sections one.0 one.1;
+      objects = objects_sound two.0 one.0 two.1;
+      init_section = three.0;
+      init_stands = only_sound (codes ":init") sections three.0 three.1;
+      atoms = init_sound four.0 three.0 four.1;
+      goal_section = goal.0;
+      goal_stands = stands;
+      goal_tree = goal.2;
+      goal_alone = goal.3;
+      goal = goal.4;
+      values = refl;
+      metric = refl;
+    } in
     subst (λ (v : Problem). ProblemParts name sections v) (some_is (problem_with name two.0 four.0 six.0) p six.2) here
 
 problem_is : (p : Problem) → p.values ≡ [] → p.metric ≡ None → problem_with p.name p.objects p.atoms p.goal ≡ p
@@ -300,14 +327,30 @@ problem_items_sound t p span (title ∷ sections) is e =
     let stands : IsSection (codes ":domain") (Some domain.0) sections = subst (λ (v : Option Headed). IsSection (codes ":domain") v sections) domain.1 (only_sound (codes ":domain") sections two.0 two.1) in
     let h = parts_sound one.0 sections p named.1 in
     record {
-      title = title; sections = sections; span = span; list = is;
+      title = title;
+      sections = sections;
+      span = span;
+      list = is;
       named = subst (λ (name : List ℕ). IsNamed (codes "problem") name title) h.named (title_sound (codes "problem") one.0 title one.1);
       known = all_sound is_problem_section problem_section_sound sections test.0;
-      domain_section = domain.0; domain_stands = stands; domain_name = domain.2; domain = domain.3;
-      objects_section = h.objects_section; objects_stand = h.objects_stand; objects = h.objects;
-      init_section = h.init_section; init_stands = h.init_stands; atoms = h.atoms;
-      goal_section = h.goal_section; goal_stands = h.goal_stands; goal_tree = h.goal_tree; goal_alone = h.goal_alone; goal = h.goal;
-      values = h.values; metric = h.metric; }
+      domain_section = domain.0;
+      domain_stands = stands;
+      domain_name = domain.2;
+      domain = domain.3;
+      objects_section = h.objects_section;
+      objects_stand = h.objects_stand;
+      objects = h.objects;
+      init_section = h.init_section;
+      init_stands = h.init_stands;
+      atoms = h.atoms;
+      goal_section = h.goal_section;
+      goal_stands = h.goal_stands;
+      goal_tree = h.goal_tree;
+      goal_alone = h.goal_alone;
+      goal = h.goal;
+      values = h.values;
+      metric = h.metric;
+    }
 
 pub problem_sound : (t : Tree) (p : Problem) → problem_of t ≡ Some p → IsProblem p t
 problem_sound t p e =
@@ -320,4 +363,4 @@ problem_complete t p h =
     (bind_is (title_of (codes "problem") h.title) (problem_rest h.sections) p.name p (title_complete (codes "problem") p.name h.title h.named)
     (is_when (list_all is_problem_section h.sections) (problem_sections p.name h.sections) (all_complete is_problem_section problem_section_complete h.sections h.known)
     ∙ bind_is (only_under (codes ":domain") h.sections) (λ d. if names_domain d then problem_parts p.name h.sections else None) (Some h.domain_section) p (only_complete (codes ":domain") h.sections (Some h.domain_section) h.domain_stands)
-      (is_when (names_domain (Some h.domain_section)) (problem_parts p.name h.sections) (named_complete h.domain_section h.domain_name h.domain) ∙ parts_complete t p h)))
+    (is_when (names_domain (Some h.domain_section)) (problem_parts p.name h.sections) (named_complete h.domain_section h.domain_name h.domain) ∙ parts_complete t p h)))

@@ -3,6 +3,7 @@ pub mod AtomForms
 pub mod Entered
 pub mod FileAnswers
 pub mod FileForms
+pub mod PlainForms
 pub mod Readings
 pub mod SectionForms
 pub mod TaskForms

@@ -187,10 +187,12 @@ KeyOf k = (key : List ℕ) × IsWord key k × ((v : Tree) → IsActionKey (recor
 
 key_of : (k : Tree) → is_part_key k ≡ true → KeyOf k
 key_of k e = elim (either_true (is_word (codes ":parameters") k) _ e) [
-      inl a ↦ (codes ":parameters", word_sound (codes ":parameters") k a, λ v. inl refl)
-    | inr rest ↦ elim (either_true (is_word (codes ":precondition") k) _ rest) [
-          inl b ↦ (codes ":precondition", word_sound (codes ":precondition") k b, λ v. inr (inl refl))
-        | inr d ↦ (codes ":effect", word_sound (codes ":effect") k d, λ v. inr (inr refl)) ] ]
+  | inl a ↦ (codes ":parameters", word_sound (codes ":parameters") k a, λ v. inl refl)
+  | inr rest ↦ elim (either_true (is_word (codes ":precondition") k) _ rest) [
+    | inl b ↦ (codes ":precondition", word_sound (codes ":precondition") k b, λ v. inr (inl refl))
+    | inr d ↦ (codes ":effect", word_sound (codes ":effect") k d, λ v. inr (inr refl))
+  ]
+]
 
 abbrev Turns : List Tree → Type 0
 Turns ts = (parts : List Part) × TakeTurns parts ts × AllByRecursion IsActionKey parts
@@ -216,10 +218,12 @@ word_is own key k e h = word_complete key k (subst (λ (text : List ℕ). IsWord
 
 is_key : (p : Part) (k : Tree) → IsWord p.key k → IsActionKey p → is_part_key k ≡ true
 is_key p k word h = elim h [
-      inl a ↦ or_left (is_word (codes ":parameters") k) (is_word (codes ":precondition") k || is_word (codes ":effect") k) (word_is p.key (codes ":parameters") k a word)
-    | inr rest ↦ or_right (is_word (codes ":parameters") k) (is_word (codes ":precondition") k || is_word (codes ":effect") k) (elim rest [
-          inl b ↦ or_left (is_word (codes ":precondition") k) (is_word (codes ":effect") k) (word_is p.key (codes ":precondition") k b word)
-        | inr d ↦ or_right (is_word (codes ":precondition") k) (is_word (codes ":effect") k) (word_is p.key (codes ":effect") k d word) ]) ]
+  | inl a ↦ or_left (is_word (codes ":parameters") k) (is_word (codes ":precondition") k || is_word (codes ":effect") k) (word_is p.key (codes ":parameters") k a word)
+  | inr rest ↦ or_right (is_word (codes ":parameters") k) (is_word (codes ":precondition") k || is_word (codes ":effect") k) (elim rest [
+    | inl b ↦ or_left (is_word (codes ":precondition") k) (is_word (codes ":effect") k) (word_is p.key (codes ":precondition") k b word)
+    | inr d ↦ or_right (is_word (codes ":precondition") k) (is_word (codes ":effect") k) (word_is p.key (codes ":effect") k d word)
+  ])
+]
 
 pub turns_are : (parts : List Part) (ts : List Tree) → TakeTurns parts ts → AllByRecursion IsActionKey parts → are_parts ts ≡ true
 turns_are [] [] h keys = refl

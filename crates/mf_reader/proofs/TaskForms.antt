@@ -76,9 +76,10 @@ declare_sound d p declared e =
     let three = bound (listed 1000 (length d.actions) (action_names d.actions)) (λ actions. Some (tables d one.0 two.0)) declared two.2 in
     let predicates = listed_sound 10000 (length d.predicates) (header_names d.predicates) one.0 one.1 in
     let objects = listed_sound 65535 (length d.constants + length p.objects) (typed_names d.constants ++ typed_names p.objects) two.0 two.1 in
-    let actions = listed_sound 1000 (length d.actions) (action_names d.actions) three.0 three.1 in
-    (record { predicates = predicates.0; objects = objects.0; actions = actions.0 },
-     ap (λ (names : List (List ℕ)). tables d names (typed_names d.constants ++ typed_names p.objects)) predicates.1 ∙ (ap (λ (names : List (List ℕ)). tables d one.0 names) objects.1 ∙ some_is (tables d one.0 two.0) declared three.2))
+    let actions = listed_sound 1000 (length d.actions) (action_names d.actions) three.0 three.1 in (
+      record { predicates = predicates.0; objects = objects.0; actions = actions.0 },
+      ap (λ (names : List (List ℕ)). tables d names (typed_names d.constants ++ typed_names p.objects)) predicates.1 ∙ (ap (λ (names : List (List ℕ)). tables d one.0 names) objects.1 ∙ some_is (tables d one.0 two.0) declared three.2),
+    )
 
 declare_complete : (d : Domain) (p : Problem) → Limits d p → declare d p ≡ Some (declared_by d p)
 unfolding declare
@@ -155,11 +156,22 @@ task_sound d p task e =
     let few_predicates = limits.0.predicates.few in
     let few_actions = limits.0.actions.few in
     record {
-      types = h.types; objects = h.objects; objects_distinct = limits.0.objects.distinct; object_limit = omega (arith, objects_are, few_objects);
-      predicates = h.predicates; predicates_distinct = limits.0.predicates.distinct; predicate_limit = omega (arith, predicates_are, few_predicates);
+      types = h.types;
+      objects = h.objects;
+      objects_distinct = limits.0.objects.distinct;
+      object_limit = omega (arith, objects_are, few_objects);
+      predicates = h.predicates;
+      predicates_distinct = limits.0.predicates.distinct;
+      predicate_limit = omega (arith, predicates_are, few_predicates);
       functions = h.functions;
-      actions = h.actions; actions_distinct = limits.0.actions.distinct; action_limit = omega (arith, actions_are, few_actions);
-      atoms = h.atoms; values = h.values; goal = h.goal; metric = h.metric; }
+      actions = h.actions;
+      actions_distinct = limits.0.actions.distinct;
+      action_limit = omega (arith, actions_are, few_actions);
+      atoms = h.atoms;
+      values = h.values;
+      goal = h.goal;
+      metric = h.metric;
+    }
 
 pub task_complete : (d : Domain) (p : Problem) (task : TypedTask) → IsTaskOf d p task → task_of d p ≡ Some task
 unfolding task_of
@@ -173,6 +185,7 @@ task_complete d p task h =
     let limits : Limits d p = record {
       predicates = record { few = omega (arith, predicates_are, few_predicates); distinct = h.predicates_distinct };
       objects = record { few = omega (arith, objects_are, few_objects); distinct = h.objects_distinct };
-      actions = record { few = omega (arith, actions_are, few_actions); distinct = h.actions_distinct } } in
+      actions = record { few = omega (arith, actions_are, few_actions); distinct = h.actions_distinct };
+    } in
     let resolved : Resolved (declared_by d p) d p task = record { types = h.types; objects = h.objects; predicates = h.predicates; functions = h.functions; actions = h.actions; atoms = h.atoms; values = h.values; goal = h.goal; metric = h.metric } in
     bind_is (declare d p) (λ declared. resolve declared d p) (declared_by d p) task (declare_complete d p limits) (resolve_complete (declared_by d p) d p task resolved)

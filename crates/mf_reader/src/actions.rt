@@ -76,12 +76,7 @@ fn parts_that_stand<'a>(parts: &'a [Tree]) -> Result<Slots<'a>, Refusal>
 
 /// An action of its name and its parts.
 #[tactic(auto, unfolding(crate::specs::Parts::action_with))]
-fn action_with(
-    alloc: Global,
-    word: Word,
-    slots: &Slots,
-    span: Span,
-) -> Result<RawAction, Refusal>
+fn action_with(alloc: Global, word: Word, slots: &Slots, span: Span) -> Result<RawAction, Refusal>
     ensures { Gives result (spec.action_with span word (seen.slots slots.now)) }
 {
     let parameters = parameters(alloc, slots.parameters)?;

@@ -185,7 +185,9 @@ fn deleted(alloc: Global, parts: &[Tree], span: Span) -> Result<RawEffect, Refus
     match parts {
         [tree] => {
             let AtomForm {
-                predicate, terms, ..
+                predicate,
+                terms,
+                ..
             } = atom(alloc, tree)?;
             Ok(RawEffect::Delete {
                 predicate,

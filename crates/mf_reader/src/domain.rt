@@ -8,7 +8,7 @@ use crate::actions::actions;
 use crate::atoms::headers;
 use crate::fault::Refusal;
 use crate::parts::{only_under, title};
-use crate::words::{behind, Headed};
+use crate::words::{Headed, behind};
 use mf_model::{Domain, Header, List, Text, Tree};
 use std::alloc::Global;
 

@@ -15,8 +15,10 @@ mod problem;
 mod read;
 mod tables;
 mod task;
+#[cfg(test)]
+mod tests;
 mod words;
 
 pub use fault::BuiltFault;
-pub use laws::task_is_unique;
+pub use laws::{task_is_plain, task_is_unique};
 pub use read::read_built;

@@ -4,7 +4,7 @@ ghost use Rattle.mf_reader.specs.Parts as spec;
 ghost use Rattle.mf_reader.specs.Seen as seen;
 
 use crate::fault::Refusal;
-use crate::words::{behind, is_word, Headed};
+use crate::words::{Headed, behind, is_word};
 use mf_model::{Text, Tree};
 use std::alloc::Global;
 

@@ -7,7 +7,7 @@ ghost use Rattle.mf_reader.specs.Seen as seen;
 use crate::atoms::{condition, facts};
 use crate::fault::Refusal;
 use crate::parts::{is_title, only_under, title};
-use crate::words::{behind, names, Headed};
+use crate::words::{Headed, behind, names};
 use mf_model::{List, Problem, RawCond, Text, Tree, Typed};
 use std::alloc::Global;
 

@@ -1,6 +1,7 @@
 ghost use Rattle.std.specs.Prelude.{◌≡◌, ◌≤◌, length, IfOk, IfErr};
 ghost use Rattle.mf_model.specs.Trees.{IsTreeOf};
 ghost use Rattle.mf_model.specs.Built.{IsBuiltDomainFile, IsBuiltProblemFile, IsTaskOfFiles};
+ghost use Rattle.mf_model.specs.Plain.{IsPlainTask};
 ghost use Rattle.mf_reader.specs.Files.{Answers, IsCause, IsTaskWith, fault_in, lex_refusal, tree_refusal};
 
 use crate::domain::read_domain;
@@ -96,14 +97,11 @@ fn fault_of(file: FileKind, refusal: Refusal) -> BuiltFault
 /// the domain is not of this form, and else the problem file exactly where the problem is not, or where
 /// the two give no task: a name is declared twice, a name is not declared, an atom has a wrong number of
 /// arguments, or there are more than 65,535 objects, 10,000 predicates, 1,000 actions or 32 parameters.
-pub fn read_built(
-    alloc: Global,
-    domain: &[u8],
-    problem: &[u8],
-) -> Result<TypedTask, BuiltFault>
+pub fn read_built(alloc: Global, domain: &[u8], problem: &[u8]) -> Result<TypedTask, BuiltFault>
     requires domain_size { length domain.now ≤ 16777216 }
     requires problem_size { length problem.now ≤ 16777216 }
     ensures task { IfOk result (IsTaskOfFiles domain.now problem.now) }
+    ensures plain { IfOk result IsPlainTask }
     ensures cause { IfErr result (IsCause domain.now problem.now) }
 {
     match domain_file(alloc, domain) {

@@ -11,8 +11,8 @@ use crate::fault::Refusal;
 use crate::names::Names;
 use crate::tables::{add_actions, add_both, add_headers, counts, parameters};
 use mf_model::{
-    Action, Cond, Domain, Header, List, Object, Problem, RawAction, RawCond, Symbol, Text, TypeName, Typed,
-    TypedTask, Types,
+    Action, Cond, Domain, Header, List, Object, Problem, RawAction, RawCond, Symbol, Text,
+    TypeName, Typed, TypedTask, Types,
 };
 use std::alloc::{AllocError, Global};
 
@@ -85,11 +85,7 @@ fn action(alloc: Global, raw: &RawAction, declared: &Declared) -> Result<Action,
 }
 
 /// The actions in their order.
-fn actions(
-    alloc: Global,
-    raws: &[RawAction],
-    declared: &Declared,
-) -> Result<List<Action>, Refusal>
+fn actions(alloc: Global, raws: &[RawAction], declared: &Declared) -> Result<List<Action>, Refusal>
     requires { tables.IsSmall (tables.seen_declared declared.now) }
     ensures { Gives result (spec.resolved_actions (tables.seen_declared declared.now) raws.now) }
 {
@@ -102,11 +98,7 @@ fn actions(
 }
 
 /// Adds objects to a list.
-fn add_objects(
-    alloc: Global,
-    out: &mut List<Object>,
-    items: &[Typed],
-) -> Result<(), AllocError>
+fn add_objects(alloc: Global, out: &mut List<Object>, items: &[Typed]) -> Result<(), AllocError>
     ensures { OnOk result (out.new ≡ out.old ++ map meaning.object_of items.now) }
 {
     for item in items {

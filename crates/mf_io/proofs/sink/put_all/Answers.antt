@@ -1,4 +1,4 @@
-use Rattle.std.proofs.Common.{◌≡◌, ◌+◌, ◌-◌, ◌≤◌, ◌<◌, [], length, take, drop, arith, rules, ap, ◌∙◌}
+use Rattle.std.proofs.Common.{◌≡◌, ◌<◌, length, arith, rules, ap}
 use Rattle.mf_io.proofs.SinkLemmas.{Appends-more, within_rest}
 use Rattle.mf_io.proofs.sink.put_all.Goals as goal
 

@@ -1,0 +1,33 @@
+use crate::{List, Text};
+use std::test::Fail;
+
+#[test]
+fn lists_grow(rt: HostRuntime) -> Result<(), Fail> {
+    let alloc = rt.alloc();
+    let mut list = List::from_slice(alloc, &[1u16, 2])?;
+    list.push(5)?;
+    list.extend(&[6])?;
+    list.insert(2, 4)?;
+    list.append(List::from_slice(alloc, &[7])?)?;
+    assert_eq!(rt; list.as_slice(), [1u16, 2, 4, 5, 6, 7].as_slice());
+    assert_eq!(rt; list.get(2).copied(), Some(4));
+    assert_eq!(rt; list.copy(alloc)?, list);
+    assert_eq!(rt; list.pop(), Some(7));
+    assert_eq!(rt; list.into_vec().len(), 5);
+    let empty: List<u16> = List::new(alloc);
+    assert!(rt; empty.is_empty());
+    Ok(())
+}
+
+#[test]
+fn texts_grow(rt: HostRuntime) -> Result<(), Fail> {
+    let alloc = rt.alloc();
+    let mut text = Text::from_slice(alloc, b"pla")?;
+    text.push(b'n')?;
+    text.extend(b"ner")?;
+    assert_eq!(rt; text.as_slice(), b"planner".as_slice());
+    assert_eq!(rt; text.copy(alloc)?, text);
+    assert_eq!(rt; text.into_vec().len(), 7);
+    assert!(rt; Text::new(alloc).is_empty());
+    Ok(())
+}
