@@ -96,7 +96,7 @@ no_plan_of held d p b loads history (PlanFound text) domain problem ends one d_t
 no_plan_of held d p b loads history (BudgetReached n) domain problem ends one d_told p_told = absurd (omega arith)
 no_plan_of held d p b loads history OutOfMemory domain problem ends one d_told p_told = absurd (omega arith)
 
-no_plan_asked : (held : List ℕ → Option (List ℕ)) (request : Option Request) (loads : List Loading) (history : History) (outcome : Outcome) (domain problem : List ℕ) (budget : ℕ) →
+pub no_plan_asked : (held : List ℕ → Option (List ℕ)) (request : Option Request) (loads : List Loading) (history : History) (outcome : Outcome) (domain problem : List ℕ) (budget : ℕ) →
     Ends held request loads history outcome → status_of outcome ≡ 1 → Asks held request domain problem budget → HasNoPlan domain problem
 no_plan_asked held None loads history outcome domain problem budget ends one asks = absurd asks
 no_plan_asked held (Some (Plan d p b)) loads history outcome domain problem budget ends one asks =

@@ -3,12 +3,11 @@ use Rattle.std.proofs.Common.{◌≡◌, ◌⊎◌, inl, inr, ℕ, List, Err, re
 use Rattle.mf_model.specs.declared.form.Domain.{Domain}
 use Rattle.mf_model.specs.declared.task.TypedTask.{TypedTask}
 use Rattle.mf_model.specs.Built.{IsBuiltDomainFile, IsTaskOfFiles}
-use Rattle.mf_model.specs.Plain.{IsPlainTask}
 use Rattle.mf_model.specs.declared.form.FileKind.{FileKind}
 use Rattle.mf_model.specs.declared.form.FileKind.TheVariants.{DomainFile, ProblemFile}
-use Rattle.mf_top.specs.declared.stub.BuiltFault.{BuiltFault}
-use Rattle.mf_top.specs.declared.stub.BuiltFault.TheVariants as fault
-use Rattle.mf_top.specs.Stub.{IsCause, IsNotBuilt}
+use Rattle.mf_reader.specs.declared.fault.BuiltFault.{BuiltFault}
+use Rattle.mf_reader.specs.declared.fault.BuiltFault.TheVariants as fault
+use Rattle.mf_reader.specs.Files.{IsCause, IsNotBuilt}
 use Rattle.mf_top.specs.declared.outcome.Outcome.{Outcome}
 use Rattle.mf_top.specs.declared.outcome.Outcome.TheVariants.{NotBuilt, OutOfMemory}
 use Rattle.mf_top.specs.Outcome.{ReadsTask}
@@ -21,10 +20,6 @@ task_is_built domain problem task of_files = (of_files.domain, of_files.domain_f
 -- no domain is the file's
 pub domain_refused : (bytes : List ℕ) → ((domain : Domain) → ¬ IsBuiltDomainFile bytes domain) → IsBuiltDomain bytes → ⊥
 domain_refused bytes none (domain, file) = none domain file
-
--- the task of built files is plain
-pub task_is_plain : (domain problem : List ℕ) (task : TypedTask) → IsTaskOfFiles domain problem task → IsPlainTask task
-task_is_plain domain problem task of_files = ?
 
 -- the refusal of the files that the fault tells, by the outcome that names it
 pub domain_not_built : (d p domain problem : List ℕ) (cause : BuiltFault) (file : FileKind) (outcome : Outcome) →

@@ -1,4 +1,5 @@
 pub mod AnswerLemmas
+pub mod BegunLemmas
 pub mod BuiltLemmas
 pub mod CallLemmas
 pub mod InputLemmas

@@ -1,5 +1,5 @@
 -- What can be relied on after a call: the words in which its clauses are said.
-use Rattle.std.specs.Prelude.{◌≡◌, ℕ, ◌<◌, ◌≤◌, ◌⊎◌, Bool, true, false, Option, Some, None, List, [], ◌∷◌, ◌++◌, length, map, drop, codes, Contains}
+use Rattle.std.specs.Prelude.{◌≡◌, ℕ, ◌<◌, ◌≤◌, ◌⊎◌, Bool, true, false, Option, Some, None, List, [], ◌∷◌, ◌++◌, length, map, drop, take, codes, Contains}
 use Rattle.std.specs.Fmt.{decimal}
 use Rattle.mf_io.specs.declared.folder.Loading.{Loading}
 use Rattle.mf_io.specs.Sink.{Appends}
@@ -77,6 +77,14 @@ pub record PrintsPlan (domain problem : List ℕ) (before after : Option (List �
   pub of_files : IsTaskOfFiles domain problem task
   pub valid : IsPlan task steps
   pub printed : Appends (plan_text task steps) before after
+
+-- at least one byte of `no plan` was written to out, which tells what was written
+pub record BeginsNoPlan (before after : Option (List ℕ)) : Type 0 where
+  pub written : List ℕ
+  pub told : before ≡ Some written
+  pub more : ℕ
+  pub some : 0 < more
+  pub begun : after ≡ Some (written ++ take more (codes "no plan\n"))
 
 -- the task of the files has no plan
 pub record HasNoPlan (domain problem : List ℕ) : Type 0 where

@@ -1,6 +1,6 @@
 ghost use Rattle.std.specs.Prelude.{◌≡◌, ◌≤◌, ◌⊎◌, map, string_bytes, Some, None, IsTrue, codes, length, ℕ, List};
 ghost use Rattle.mf_io.specs.Sink.{Appends, Rose};
-ghost use Rattle.mf_top.specs.Calls.{Asks, IsRefusedInput, SaysRefused, IsComplete, PrintsPlan, HasNoPlan, SaysBudget, IsAnswer, IsHistoryOf, IsEmptyOr, IsGreedySearch, Stands, IsStatus, GrowsBy, SaysUnread, files_of, last_failed, new_loads};
+ghost use Rattle.mf_top.specs.Calls.{Asks, BeginsNoPlan, IsRefusedInput, SaysRefused, IsComplete, PrintsPlan, HasNoPlan, SaysBudget, IsAnswer, IsHistoryOf, IsEmptyOr, IsGreedySearch, Stands, IsStatus, GrowsBy, SaysUnread, files_of, last_failed, new_loads};
 ghost use Rattle.mf_top.specs.Outcome.{Concludes, Runs, no_history};
 ghost use Rattle.mf_model.specs.declared.task.TypedTask.{TypedTask};
 ghost use Rattle.mf_top.specs.Loads.{greatest_length};
@@ -80,6 +80,7 @@ pub fn plan_one<F: Folder, O: Sink, E: Sink>(
         → PrintsPlan domain problem (O.written out.old) (O.written out.new) }
     ensures no_plan { result.status ≡ 1 → (domain problem : List ℕ) (budget : ℕ) → Asks (F.held files.old) (Some request.now) domain problem budget → HasNoPlan domain problem }
     ensures no_plan_text { result.status ≡ 1 → Appends (codes "no plan\n") (O.written out.old) (O.written out.new) }
+    ensures no_plan_begun { BeginsNoPlan (O.written out.old) (O.written out.new) → (domain problem : List ℕ) (budget : ℕ) → Asks (F.held files.old) (Some request.now) domain problem budget → HasNoPlan domain problem }
     ensures budget_text { result.status ≡ 6 → (domain problem : List ℕ) (budget : ℕ) → Asks (F.held files.old) (Some request.now) domain problem budget
         → SaysBudget domain problem result.history (O.written out.old) (O.written out.new) }
     ensures quiet { IsAnswer result.status → E.written err.new ≡ E.written err.old }
@@ -171,6 +172,7 @@ pub fn run<F: Folder, O: Sink, E: Sink>(
         → PrintsPlan domain problem (O.written out.old) (O.written out.new) }
     ensures no_plan { result.status ≡ 1 → (domain problem : List ℕ) (budget : ℕ) → Asks (F.held files.old) (request_of (map string_bytes words.now)) domain problem budget → HasNoPlan domain problem }
     ensures no_plan_text { result.status ≡ 1 → Appends (codes "no plan\n") (O.written out.old) (O.written out.new) }
+    ensures no_plan_begun { BeginsNoPlan (O.written out.old) (O.written out.new) → (domain problem : List ℕ) (budget : ℕ) → Asks (F.held files.old) (request_of (map string_bytes words.now)) domain problem budget → HasNoPlan domain problem }
     ensures budget_text { result.status ≡ 6 → (domain problem : List ℕ) (budget : ℕ) → Asks (F.held files.old) (request_of (map string_bytes words.now)) domain problem budget
         → SaysBudget domain problem result.history (O.written out.old) (O.written out.new) }
     ensures quiet { IsAnswer result.status → E.written err.new ≡ E.written err.old }

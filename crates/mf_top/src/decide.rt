@@ -11,11 +11,11 @@ ghost use Rattle.mf_top.specs.Outcome.{no_history, LoadsTask, EndsSearch, Ends, 
 
 use crate::{Outcome, Request};
 use crate::load::load_file;
-use crate::stub::{BuiltFault, read_built};
 use crate::texts::plan_text;
 use mf_io::Folder;
 use mf_model::{FileKind, List, Text, TypedTask};
 use mf_plain::{History, Searched, Status, TraceFault, plan_of, search};
+use mf_reader::{BuiltFault, read_built};
 use std::alloc::Global;
 
 /// An outcome, and the history of its search.

@@ -8,7 +8,6 @@ mod load;
 mod outcome;
 mod request;
 
-mod stub;
 mod texts;
 mod words;
 

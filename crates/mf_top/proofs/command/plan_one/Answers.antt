@@ -1,3 +1,4 @@
+use Rattle.mf_top.proofs.BegunLemmas.{begun_none}
 use Rattle.mf_top.proofs.CallLemmas.{two_refuses, refusal_stands, two_says, refusal_unloaded, log_grows, four_failed, failed_stands, four_says, is_status}
 use Rattle.mf_top.proofs.AnswerLemmas.{zero_prints, one_none, one_says, six_says, answer_quiet, answer_searched, history_searched, history_greedy}
 use Rattle.mf_top.proofs.InputLemmas.{three_refused, three_says, refused_input_stands, complete, no_write_fault}
@@ -69,3 +70,6 @@ returns-clause-complete g c none out err =
       (no_write_fault c.call_plan.result.status (g.O.Sink.faults c.args.out.now) (g.O.Sink.faults c.call_plan.new.out) (g.E.Sink.faults c.args.err.now) (g.E.Sink.faults c.call_plan.new.err)
         c.call_plan.ensures.write_fault out err)
       none
+
+pub returns-clause-no_plan_begun : goal.returns-clause-no_plan_begun
+returns-clause-no_plan_begun g c = begun_none c.call_plan.ensures.answer

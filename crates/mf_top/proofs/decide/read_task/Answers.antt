@@ -1,8 +1,5 @@
-use Rattle.mf_top.proofs.BuiltLemmas.{task_is_plain, domain_not_built, problem_not_built}
+use Rattle.mf_top.proofs.BuiltLemmas.{domain_not_built, problem_not_built}
 use Rattle.mf_top.proofs.decide.read_task.Goals as goal
-
-pub returns-in-Ok : goal.returns-in-Ok
-returns-in-Ok c = (c.in-Ok.ensures.task, task_is_plain c.args.domain_bytes.now c.args.problem_bytes.now c.in-Ok.task c.in-Ok.ensures.task)
 
 pub returns-in-DomainFile : goal.returns-in-DomainFile
 returns-in-DomainFile c =

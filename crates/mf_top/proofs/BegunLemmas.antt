@@ -1,0 +1,83 @@
+-- That `no plan` is begun on out only where the outcome is that there is none.
+use Rattle.std.proofs.Common.{◌≡◌, ◌≢◌, ℕ, zero, suc, IsTrue, ◌<◌, ◌≤◌, ◌+◌, ◌-◌, ◌⊎◌, inl, inr, Bool, true, false, Option, Some, None, Result, Ok, Err, IfSome, List, [], ◌∷◌, ◌++◌, length, map, drop, take, codes, refl, sym, ◌∙◌, ap, subst, append-nil, arith, rules}
+use Rattle.std.proofs.lemmas.List.Prefix.{front_rest}
+use Rattle.std.proofs.lemmas.Bool.{false≢true}
+use Rattle.mf_io.specs.declared.folder.Loading.{Loading}
+use Rattle.mf_io.specs.declared.sink.PutFault.{PutFault}
+use Rattle.mf_io.specs.declared.sink.PutFault.TheVariants.{Failed, Memory}
+use Rattle.mf_io.specs.Sink.{Appends, AppendsFront}
+use Rattle.mf_model.specs.declared.task.TypedTask.{TypedTask}
+use Rattle.std.specs.Option.{option_map}
+use Rattle.mf_io.proofs.SinkLemmas.{AppendsFront-all}
+use Rattle.mf_model.specs.Plain.{IsPlainTask}
+use Rattle.mf_model.specs.declared.state.Instance.{Instance}
+use Rattle.std.specs.Fmt.{decimal}
+use Rattle.mf_plain.specs.declared.history.History.{History}
+use Rattle.mf_top.proofs.AnswerLemmas.{no_plan_asked}
+use Rattle.mf_top.specs.declared.request.Request.{Request}
+use Rattle.mf_top.specs.declared.request.Request.TheVariants.{Plan}
+use Rattle.mf_top.specs.declared.outcome.Outcome.{Outcome}
+use Rattle.mf_top.specs.declared.outcome.Outcome.TheVariants.{WordsRefused, CannotRead, TooLong, NotBuilt, PlanFound, NoPlan, BudgetReached, OutOfMemory}
+use Rattle.mf_top.specs.Calls.{Asks, Stands, IsStatus, files_of, new_loads, last_failed, OnlyLastFailed, GrowsBy, SaysUnread, PrintsPlan, HasNoPlan, NotOfForm, IsRefusedInput, SaysRefused, BeginsNoPlan}
+use Rattle.mf_top.specs.Delivery.{WritesBoth, final_status}
+use Rattle.mf_top.specs.Loads.{Reads, IsTooLong, found, lost, greatest_length}
+use Rattle.mf_top.specs.Outcome.{AreRead, IsTaskOfLoads, Concludes, Ends, EndsLoading, EndsPlan, EndsRefused, EndsSearch, Runs, no_history}
+use Rattle.mf_top.specs.Texts.{status_of, out_text, err_text, plan_text}
+
+-- what stands on out is a front part of the text for it
+front_of_out : (outcome : Outcome) (ob oa eb ea : Option (List ℕ)) (delivered : Result Unit PutFault) →
+    WritesBoth (out_text outcome) (err_text outcome) ob oa eb ea delivered → AppendsFront (out_text outcome) ob oa
+front_of_out outcome ob oa eb ea (Ok done) written = AppendsFront-all (out_text outcome) ob oa written.0
+front_of_out outcome ob oa eb ea (Err fault) (inl front) = front.0
+front_of_out outcome ob oa eb ea (Err fault) (inr all) = AppendsFront-all (out_text outcome) ob oa all.0
+
+-- the bytes behind the written ones are told
+behind : (written text said : List ℕ) (m : ℕ) (ob oa : Option (List ℕ)) → ob ≡ Some written → oa ≡ Some (written ++ said) → Appends (take m text) ob oa →
+    take m text ≡ said
+behind written text said m ob oa told begun appends =
+    let both : Some (written ++ said) ≡ Some (written ++ take m text) =
+        sym begun ∙ subst (λ o. oa ≡ option_map (λ w. w ++ take m text) o) told appends in
+    let same : written ++ said ≡ written ++ take m text = cc in
+    sym (front_rest (written ++ said) written (take m text) same) ∙ front_rest (written ++ said) written said refl
+
+-- the first byte of a front part
+first_byte : (x y : ℕ) (xs ys : List ℕ) (m n : ℕ) → 0 < n → take m (x ∷ xs) ≡ take n (y ∷ ys) → x ≡ y
+first_byte x y xs ys m zero some same = absurd (omega arith)
+first_byte x y xs ys zero (suc n) some same = cc
+first_byte x y xs ys (suc m) (suc n) some same = cc
+
+no_byte : (y : ℕ) (ys : List ℕ) (m n : ℕ) → 0 < n → take m [] ≡ take n (y ∷ ys) → ⊥
+no_byte y ys m zero some same = omega arith
+no_byte y ys zero (suc n) some same = cc
+no_byte y ys (suc m) (suc n) some same = cc
+
+-- a plan's text begins with a bracket or a semicolon
+plan_begins : (task : TypedTask) (steps : List Instance) (m n : ℕ) → 0 < n → take m (plan_text task steps) ≡ take n (codes "no plan\n") → ⊥
+plan_begins task [] m n some same = let e = first_byte 59 110 (drop 1 (plan_text task [])) (drop 1 (codes "no plan\n")) m n some same in omega arith
+plan_begins task (step ∷ steps) m n some same =
+    let e = first_byte 40 110 (drop 1 (plan_text task (step ∷ steps))) (drop 1 (codes "no plan\n")) m n some same in omega arith
+
+begun_by : (held : List ℕ → Option (List ℕ)) (request : Option Request) (loads : List Loading) (history : History) (outcome : Outcome) (m n : ℕ) →
+    Ends held request loads history outcome → 0 < n → take m (out_text outcome) ≡ take n (codes "no plan\n") → status_of outcome ≡ 1
+begun_by held request loads history NoPlan m n ends some same = refl
+begun_by held request loads history (BudgetReached b) m n ends some same =
+    absurd (let e = first_byte 98 110 (drop 1 (out_text (BudgetReached b))) (drop 1 (codes "no plan\n")) m n some same in omega arith)
+begun_by held None loads history (PlanFound text) m n ends some same = absurd ends.2
+begun_by held (Some (Plan d p b)) loads history (PlanFound text) m n (inl (empty, ends)) some same = absurd ends
+begun_by held (Some (Plan d p b)) loads history (PlanFound text) m n (inr by_answer) some same =
+    absurd (plan_begins by_answer.task by_answer.ends.steps m n some (ap (take m) (sym by_answer.ends.text_is) ∙ same))
+begun_by held request loads history WordsRefused m n ends some same = absurd (no_byte 110 (drop 1 (codes "no plan\n")) m n some same)
+begun_by held request loads history (CannotRead name) m n ends some same = absurd (no_byte 110 (drop 1 (codes "no plan\n")) m n some same)
+begun_by held request loads history (TooLong name) m n ends some same = absurd (no_byte 110 (drop 1 (codes "no plan\n")) m n some same)
+begun_by held request loads history (NotBuilt name) m n ends some same = absurd (no_byte 110 (drop 1 (codes "no plan\n")) m n some same)
+begun_by held request loads history OutOfMemory m n ends some same = absurd (no_byte 110 (drop 1 (codes "no plan\n")) m n some same)
+
+pub begun_none : {held : List ℕ → Option (List ℕ)} {request : Option Request} {log_before log_after : List Loading}
+    {out_before out_after err_before err_after : Option (List ℕ)} {answer : ℕ} {history : History} →
+    Runs held request log_before log_after out_before out_after err_before err_after answer history →
+    BeginsNoPlan out_before out_after → (domain problem : List ℕ) (budget : ℕ) → Asks held request domain problem budget → HasNoPlan domain problem
+begun_none {held = held} {request = request} {log_before = before} {log_after = after} {out_before = ob} {out_after = oa} {err_before = eb} {err_after = ea} {answer = answer} {history = history} runs begins domain problem budget asks =
+    let front = front_of_out runs.outcome ob oa eb ea runs.concludes.delivered runs.concludes.written in
+    let same = behind begins.written (out_text runs.outcome) (take begins.more (codes "no plan\n")) front.0 ob oa begins.told begins.begun front.2 in
+    no_plan_asked held request runs.loads history runs.outcome domain problem budget runs.ends
+      (begun_by held request runs.loads history runs.outcome front.0 begins.more runs.ends begins.some same) asks
