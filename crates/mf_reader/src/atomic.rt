@@ -5,8 +5,8 @@ ghost use Rattle.mf_reader.specs.Tables as spec;
 
 use crate::declared::Declared;
 use crate::fault::Refusal;
-use crate::names::Names;
 use mf_model::{Atom, List, RawCond, Term, Word};
+use mf_names::Names;
 use std::alloc::Global;
 
 /// The place of a variable among the parameters, or the number of an object.

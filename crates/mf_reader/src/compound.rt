@@ -7,8 +7,8 @@ ghost use Rattle.mf_reader.specs.Tables as spec;
 use crate::atomic::{predicate, terms};
 use crate::declared::Declared;
 use crate::fault::Refusal;
-use crate::names::Names;
 use mf_model::{Cond, Effect, RawCond, RawEffect};
+use mf_names::Names;
 use sqlite_items::Items;
 use std::alloc::Global;
 

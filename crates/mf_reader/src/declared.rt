@@ -1,5 +1,5 @@
-use crate::names::Names;
 use mf_model::List;
+use mf_names::Names;
 
 /// What a domain and a problem declare: names in order, and for each predicate its number of parameters.
 #[derive(Debug, Drop)]

@@ -9,7 +9,6 @@ mod declared;
 mod domain;
 mod fault;
 mod laws;
-mod names;
 mod parts;
 mod problem;
 mod read;

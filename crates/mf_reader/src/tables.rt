@@ -4,8 +4,8 @@ ghost use Rattle.mf_reader.specs.Gives.{Gives};
 ghost use Rattle.mf_reader.specs.Tables as spec;
 
 use crate::fault::Refusal;
-use crate::names::Names;
 use mf_model::{Header, List, RawAction, Typed};
+use mf_names::Names;
 use std::alloc::{AllocError, Global};
 
 /// Enters the names of typed items; a second one of the same name is refused.

@@ -8,12 +8,12 @@ use crate::atomic::facts;
 use crate::compound::{condition, effect};
 use crate::declared::Declared;
 use crate::fault::Refusal;
-use crate::names::Names;
 use crate::tables::{add_actions, add_both, add_headers, counts, parameters};
 use mf_model::{
     Action, Cond, Domain, Header, List, Object, Problem, RawAction, RawCond, Symbol, Text,
     TypeName, Typed, TypedTask, Types,
 };
+use mf_names::Names;
 use std::alloc::{AllocError, Global};
 
 /// The list of the one type `object`.
