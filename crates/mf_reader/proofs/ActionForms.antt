@@ -1,6 +1,5 @@
 -- The reading of actions agrees with their form.
-use Rattle.std.proofs.Common.{◌≡◌, ℕ, Bool, true, false, ◌⊎◌, if◌then◌else◌, Option, Some, None, List, [], ◌∷◌, ◌++◌, option_to_list, refl, ap, sym, ◌∙◌, subst, inl, inr, codes}
-use Rattle.std.specs.List.{AllByRecursion}
+use Rattle.std.proofs.Common.{◌≡◌, if◌then◌else◌, Option, Some, None, List, [], ◌∷◌, ◌++◌, option_to_list, refl, ap, sym, ◌∙◌, subst, inl, inr, codes}
 use Rattle.mf_model.specs.declared.token.Span.{Span}
 use Rattle.mf_model.specs.declared.tree.Tree.{Tree}
 use Rattle.mf_model.specs.declared.tree.Tree.TheViews.{out-Tree}
@@ -10,14 +9,14 @@ use Rattle.mf_model.specs.declared.form.Typed.{Typed}
 use Rattle.mf_model.specs.declared.form.RawCond.{RawCond}
 use Rattle.mf_model.specs.declared.form.RawEffect.{RawEffect}
 use Rattle.mf_model.specs.declared.form.RawAction.{RawAction}
-use Rattle.mf_model.specs.Forms.{Each, IsList, IsHeaded, HasHead, Headed, IsName, IsUntypedVariable, Part, TakeTurns, IsActionKey, IsPart, AreParameters, IsPrecondition, IsOutcome, IsAction, AreActions}
-use Rattle.mf_reader.specs.Gives.{◌>>=◌, each}
-use Rattle.mf_reader.specs.Reading.{name_of, variables_of, behind}
+use Rattle.mf_model.specs.Forms.{IsHeaded, HasHead, Headed, IsName, AreParameters, IsPrecondition, IsOutcome, IsAction, AreActions}
+use Rattle.mf_reader.specs.Gives.{◌>>=◌}
+use Rattle.mf_reader.specs.Reading.{name_of, behind}
 use Rattle.mf_reader.specs.Parts.{only_value, are_parts, parameters_layer, parameters_of, precondition_of, outcome_of, Slots, slots_of, made_action, action_with, action_items, action_by, action_in, actions_of}
 use Rattle.mf_reader.proofs.Readings.{bound, bind_is, some_is, when_true, is_when, each_sound, each_complete}
 use Rattle.mf_reader.proofs.WordForms.{name_reads, variables_read, behind_sound, behind_complete}
 use Rattle.mf_reader.proofs.AtomForms.{cond_reads, effect_reads}
-use Rattle.mf_reader.proofs.SectionForms.{not_headed, headless, value_sound, value_complete, turns_of, turns_are, no_some, some_none}
+use Rattle.mf_reader.proofs.SectionForms.{not_headed, headless, value_sound, value_complete, turns_of, turns_are, no_some}
 
 -- Parts
 

@@ -1,5 +1,5 @@
 -- The readings of atoms, conditions, effects and headers agree with their forms.
-use Rattle.std.proofs.Common.{◌≡◌, ℕ, Bool, true, false, ◌⊎◌, if◌then◌else◌, Option, Some, None, List, [], ◌∷◌, refl, ap, sym, ◌∙◌, subst, inl, inr, codes}
+use Rattle.std.proofs.Common.{◌≡◌, ℕ, true, Option, Some, None, List, [], ◌∷◌, refl, ap, sym, ◌∙◌, subst, inl, inr, codes}
 use Rattle.std.specs.List.{list_any}
 use Rattle.std.specs.Str.{bytes_eq}
 use Rattle.mf_model.specs.declared.token.Span.{Span}
@@ -13,10 +13,10 @@ use Rattle.mf_model.specs.declared.form.RawCond.{RawCond}
 use Rattle.mf_model.specs.declared.form.RawCond.TheVariants as c
 use Rattle.mf_model.specs.declared.form.RawEffect.{RawEffect}
 use Rattle.mf_model.specs.declared.form.RawEffect.TheVariants as e
-use Rattle.mf_model.specs.Forms.{Each, IsList, IsWord, IsHeaded, HasHead, Headed, IsName, IsTerm, IsPredicate, IsUntypedVariable, IsAtom, IsFact, IsAtomCond, IsConjunction, IsCond, IsAdded, IsDeleted, IsLiteral, IsGroup, IsEffect, IsHeader, reserved}
+use Rattle.mf_model.specs.Forms.{IsHeaded, Headed, IsAtom, IsFact, IsAtomCond, IsCond, IsAdded, IsDeleted, IsLiteral, IsEffect, IsHeader, reserved}
 use Rattle.mf_reader.specs.declared.atoms.AtomForm.{AtomForm}
 use Rattle.mf_reader.specs.Gives.{◌>>=◌, each}
-use Rattle.mf_reader.specs.Reading.{term_of, predicate_of, name_of, variable_of, untyped, behind, atom_layer, atom_of, fact_of, unpreferred, atom_cond_of, cond_by, cond_of, added_of, deleted_of, literal_by, literal_of, effect_by, effect_of, variables_of, header_layer, header_of}
+use Rattle.mf_reader.specs.Reading.{term_of, predicate_of, behind, atom_layer, atom_of, fact_of, unpreferred, atom_cond_of, cond_by, cond_of, added_of, deleted_of, literal_by, literal_of, effect_by, effect_of, variables_of, header_layer, header_of}
 use Rattle.mf_reader.proofs.Readings.{Reads, bound, bind_is, unless_true, is_unless, some_is, each_sound, each_complete}
 use Rattle.mf_reader.proofs.WordForms.{predicate_reads, term_reads, variables_read, behind_sound, behind_complete, one_head, unheaded}
 

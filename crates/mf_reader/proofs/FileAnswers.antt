@@ -1,12 +1,11 @@
 -- Files have one tree, one form and one task at most, so what is not read is not there.
-use Rattle.std.proofs.Common.{◌≡◌, ℕ, Option, Some, None, Result, Ok, Err, List, refl, ap, sym, ◌∙◌, subst}
+use Rattle.std.proofs.Common.{◌≡◌, ℕ, Some, Result, Ok, Err, List, ap, sym, ◌∙◌, subst}
 use Rattle.mf_model.specs.declared.tree.Tree.{Tree}
 use Rattle.mf_model.specs.declared.form.Domain.{Domain}
 use Rattle.mf_model.specs.declared.form.Problem.{Problem}
 use Rattle.mf_model.specs.declared.form.FileKind.TheVariants.{DomainFile, ProblemFile}
 use Rattle.mf_model.specs.declared.task.TypedTask.{TypedTask}
 use Rattle.mf_model.specs.Trees.{IsTreeOf}
-use Rattle.mf_model.specs.Forms.{IsDomain, IsProblem}
 use Rattle.mf_model.specs.Resolution.{IsTaskOf}
 use Rattle.mf_model.specs.Built.{IsBuiltDomainFile, IsBuiltProblemFile, IsTaskOfFiles}
 use Rattle.mf_lex.proofs.Whole.{unique_tree}
@@ -15,7 +14,7 @@ use Rattle.mf_reader.specs.declared.fault.Refusal.TheVariants.{Refused, Memory}
 use Rattle.mf_reader.specs.Gives.{Gives}
 use Rattle.mf_reader.specs.Parts.{domain_of, problem_of}
 use Rattle.mf_reader.specs.Tasks.{task_of}
-use Rattle.mf_reader.specs.Files.{Lacks, Answers, IsTaskWith, fault_in, NoTask, IsNotBuilt, IsCause}
+use Rattle.mf_reader.specs.Files.{Lacks, Answers, IsTaskWith, fault_in, IsCause}
 use Rattle.mf_reader.proofs.Readings.{some_is}
 use Rattle.mf_reader.proofs.SectionForms.{no_some}
 use Rattle.mf_reader.proofs.FileForms.{domain_sound, domain_complete, problem_sound, problem_complete}

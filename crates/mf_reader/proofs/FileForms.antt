@@ -1,23 +1,21 @@
 -- The readings of domains and problems agree with their forms.
-use Rattle.std.proofs.Common.{◌≡◌, ℕ, Bool, true, false, ◌&&◌, ◌||◌, ◌⊎◌, if◌then◌else◌, Option, Some, None, is_some, List, [], ◌∷◌, refl, ap, sym, ◌∙◌, subst, inl, inr, codes}
+use Rattle.std.proofs.Common.{◌≡◌, ℕ, Bool, true, ◌&&◌, ◌||◌, if◌then◌else◌, Option, Some, None, is_some, List, [], ◌∷◌, refl, ap, sym, ◌∙◌, subst, inl, inr, codes}
 use Rattle.std.specs.List.{list_all, AllByRecursion}
 use Rattle.mf_model.specs.declared.token.Kind.{Kind}
 use Rattle.mf_model.specs.declared.token.Span.{Span}
 use Rattle.mf_model.specs.declared.tree.Tree.{Tree}
 use Rattle.mf_model.specs.declared.tree.Tree.TheViews.{out-Tree}
 use Rattle.mf_model.specs.declared.tree.Tree.TheOpen.{Tree-F}
-use Rattle.mf_model.specs.declared.form.Word.{Word}
 use Rattle.mf_model.specs.declared.form.Typed.{Typed}
 use Rattle.mf_model.specs.declared.form.Header.{Header}
 use Rattle.mf_model.specs.declared.form.RawCond.{RawCond}
-use Rattle.mf_model.specs.declared.form.RawAction.{RawAction}
 use Rattle.mf_model.specs.declared.form.RawValue.{RawValue}
 use Rattle.mf_model.specs.declared.form.RawMetric.{RawMetric}
 use Rattle.mf_model.specs.declared.form.Domain.{Domain}
 use Rattle.mf_model.specs.declared.form.Problem.{Problem}
-use Rattle.mf_model.specs.Forms.{Each, IsWord, IsHeaded, HasHead, Headed, IsUntypedName, IsHeader, IsFact, IsCond, IsTitle, IsNamed, IsSection, OneSection, AreItems, AreActions, IsDomainSection, IsDomain, IsProblemSection, IsProblem}
-use Rattle.mf_reader.specs.Gives.{◌>>=◌, each}
-use Rattle.mf_reader.specs.Reading.{behind, header_of, fact_of, names_of, cond_of}
+use Rattle.mf_model.specs.Forms.{IsHeaded, HasHead, Headed, IsUntypedName, IsHeader, IsFact, IsCond, IsTitle, IsNamed, IsSection, OneSection, AreItems, AreActions, IsDomainSection, IsDomain, IsProblemSection, IsProblem}
+use Rattle.mf_reader.specs.Gives.{◌>>=◌}
+use Rattle.mf_reader.specs.Reading.{behind}
 use Rattle.mf_reader.specs.Parts.{is_section, only_under, actions_of, is_domain_section, predicates_of, any_layer, title_items, title_of, is_leaf_layer, is_title, names_domain, domain_with, domain_sections, domain_items, domain_of, is_problem_section, objects_of, init_of, goal_items, goal_of, problem_with, problem_parts, problem_sections, problem_items, problem_of}
 use Rattle.mf_reader.proofs.Readings.{bound, bind_is, some_is, when_true, is_when, each_sound, each_complete}
 use Rattle.mf_reader.proofs.WordForms.{names_read, behind_sound, behind_complete}

@@ -1,6 +1,6 @@
 -- The task of two files of the built form is plain.
-use Rattle.std.proofs.Common.{◌≡◌, ℕ, zero, suc, ◌+◌, ◌<◌, ◌≤◌, Bool, true, false, ◌&&◌, if◌then◌else◌, nat_le, nat_lt, nat_eq, IsTrue, Option, Some, None, List, [], ◌∷◌, ◌++◌, map, length, get_or, refl, ap, sym, ◌∙◌, subst, arith, rules, option_map, slice_get, length-append}
-use Rattle.std.specs.List.{All, position}
+use Rattle.std.proofs.Common.{◌≡◌, ℕ, zero, suc, ◌<◌, ◌≤◌, Bool, true, ◌&&◌, if◌then◌else◌, nat_le, nat_lt, IsTrue, Option, Some, None, List, [], ◌∷◌, ◌++◌, map, length, refl, ap, sym, ◌∙◌, subst, arith, option_map, slice_get, length-append}
+use Rattle.std.specs.List.{All}
 use Rattle.std.specs.Str.{bytes_eq}
 use Rattle.std.proofs.lemmas.List.{length-map}
 use Rattle.std.proofs.lemmas.List.Quantifiers.{position-Some}
@@ -9,11 +9,11 @@ use Rattle.std.proofs.lemmas.Bool.Decides.{nat_tests}
 use Rattle.mf_model.specs.declared.form.Word.{Word}
 use Rattle.mf_model.specs.declared.form.Typed.{Typed}
 use Rattle.mf_model.specs.declared.form.Header.{Header}
-use Rattle.mf_model.specs.declared.form.RawCond.{RawCond, fold-RawCond}
+use Rattle.mf_model.specs.declared.form.RawCond.{RawCond}
 use Rattle.mf_model.specs.declared.form.RawCond.TheViews.{out-RawCond, roll-RawCond}
 use Rattle.mf_model.specs.declared.form.RawCond.TheOpen.{RawCond-F}
 use Rattle.mf_model.specs.declared.form.RawCond.TheFolds.{fold-roll-RawCond, ind-RawCond, map-RawCond}
-use Rattle.mf_model.specs.declared.form.RawEffect.{RawEffect, fold-RawEffect}
+use Rattle.mf_model.specs.declared.form.RawEffect.{RawEffect}
 use Rattle.mf_model.specs.declared.form.RawEffect.TheViews.{roll-RawEffect}
 use Rattle.mf_model.specs.declared.form.RawEffect.TheOpen.{RawEffect-F}
 use Rattle.mf_model.specs.declared.form.RawEffect.TheFolds.{fold-roll-RawEffect, ind-RawEffect, map-RawEffect}

@@ -1,15 +1,13 @@
 -- The readings of sections and parts in any order agree with their forms.
-use Rattle.std.proofs.Common.{◌≡◌, ◌≢◌, ℕ, Bool, true, false, ◌&&◌, ◌||◌, ◌⊎◌, if◌then◌else◌, Option, Some, None, is_some, List, [], ◌∷◌, ◌++◌, refl, ap, sym, ◌∙◌, subst, inl, inr, codes}
+use Rattle.std.proofs.Common.{◌≡◌, ℕ, Bool, true, false, ◌&&◌, ◌||◌, ◌⊎◌, if◌then◌else◌, Option, Some, None, is_some, List, [], ◌∷◌, ◌++◌, refl, ap, sym, ◌∙◌, subst, inl, inr, codes}
 use Rattle.std.specs.List.{AllByRecursion}
 use Rattle.std.specs.Str.{bytes_eq}
-use Rattle.mf_model.specs.declared.token.Span.{Span}
 use Rattle.mf_model.specs.declared.tree.Tree.{Tree}
 use Rattle.mf_model.specs.Forms.{Headed, IsWord, IsHeaded, HasHead, NoSection, OneSection, IsSection, Part, TakeTurns, IsActionKey, NoPart, OnePart, IsPart}
-use Rattle.mf_reader.specs.Gives.{◌>>=◌}
 use Rattle.mf_reader.specs.Reading.{behind, is_word, has_text}
 use Rattle.mf_reader.specs.Parts.{FirstUnder, first_by, first_under, only_by, only_under, Valued, first_value, only_value_by, only_value, is_part_key, are_parts}
-use Rattle.mf_reader.proofs.Readings.{some_is, unless_true, is_unless, when_true, is_when}
-use Rattle.mf_reader.proofs.WordForms.{behind_sound, behind_complete, word_sound, word_complete, same_text, text_same, not_true, not_when}
+use Rattle.mf_reader.proofs.Readings.{some_is, unless_true, is_unless}
+use Rattle.mf_reader.proofs.WordForms.{behind_sound, behind_complete, word_sound, word_complete, same_text, text_same, not_true}
 
 pub no_some : {A : Type 0} (x : A) → None ≡ Some x → ⊥
 no_some x e = cc

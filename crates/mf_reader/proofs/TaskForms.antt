@@ -1,25 +1,23 @@
 -- The task that is read is the one that a domain and a problem mean.
-use Rattle.std.proofs.Common.{◌≡◌, ℕ, ◌+◌, ◌≤◌, Bool, true, false, ◌&&◌, if◌then◌else◌, nat_le, Option, Some, None, List, [], ◌∷◌, ◌++◌, map, length, refl, ap, sym, ◌∙◌, subst, arith, codes, length-append}
+use Rattle.std.proofs.Common.{◌≡◌, ℕ, ◌+◌, ◌≤◌, true, ◌&&◌, nat_le, Option, Some, None, List, [], ◌∷◌, ◌++◌, map, length, refl, ap, sym, ◌∙◌, subst, arith, length-append}
 use Rattle.std.proofs.lemmas.List.{length-map}
 use Rattle.std.proofs.lemmas.Bool.Decides.{nat_tests}
 use Rattle.mf_model.specs.declared.form.Domain.{Domain}
 use Rattle.mf_model.specs.declared.form.Problem.{Problem}
-use Rattle.mf_model.specs.declared.form.Typed.{Typed}
 use Rattle.mf_model.specs.declared.task.Object as object
 use Rattle.mf_model.specs.declared.task.Symbol.{Symbol}
 use Rattle.mf_model.specs.declared.task.Action.{Action}
 use Rattle.mf_model.specs.declared.task.Atom.{Atom}
-use Rattle.mf_model.specs.declared.task.Cond.{Cond}
 use Rattle.mf_model.specs.declared.task.TypeName.{TypeName}
 use Rattle.mf_model.specs.declared.task.Valued.{Valued}
 use Rattle.mf_model.specs.declared.task.Metric.{Metric}
 use Rattle.mf_model.specs.declared.task.TypedTask.{TypedTask}
-use Rattle.mf_model.specs.Resolution.{Declared, declared_by, are_distinct, typed_names, symbol_of, action_of, fact_of, cond_of, object_of, IsTaskOf}
+use Rattle.mf_model.specs.Resolution.{Declared, declared_by, are_distinct, typed_names, symbol_of, action_of, cond_of, object_of, IsTaskOf}
 use Rattle.mf_reader.specs.Gives.{◌>>=◌, each}
 use Rattle.mf_reader.specs.Tables.{facts_of, header_names, action_names}
 use Rattle.mf_reader.specs.Tasks.{symbols_of, resolved_actions, listed, declare, the_types, objects_of, task_with, resolve, task_of}
 use Rattle.mf_reader.proofs.Readings.{bound, bind_is, some_is, when_true, is_when}
-use Rattle.mf_reader.proofs.SectionForms.{both_true, no_some, some_none}
+use Rattle.mf_reader.proofs.SectionForms.{both_true}
 
 le_of : (a b : ℕ) → nat_le a b ≡ true → a ≤ b
 le_of a b e = grind (arith, nat_tests)

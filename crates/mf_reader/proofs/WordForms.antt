@@ -1,5 +1,5 @@
 -- The readings of words, terms and lists with a head word agree with their forms.
-use Rattle.std.proofs.Common.{◌≡◌, ℕ, Bool, true, false, ◌||◌, ◌⊎◌, if◌then◌else◌, Option, Some, None, List, [], ◌∷◌, refl, ap, sym, ◌∙◌, subst, inl, inr, codes, arith}
+use Rattle.std.proofs.Common.{◌≡◌, ℕ, Bool, true, false, ◌||◌, ◌⊎◌, if◌then◌else◌, Option, Some, None, List, [], ◌∷◌, refl, ap, sym, ◌∙◌, subst, inl, inr}
 use Rattle.std.proofs.Math.Bool.{or_assoc}
 use Rattle.std.specs.List.{list_any}
 use Rattle.std.specs.Str.{bytes_eq}
@@ -12,9 +12,9 @@ use Rattle.mf_model.specs.declared.tree.Tree.TheViews.{out-Tree}
 use Rattle.mf_model.specs.declared.tree.Tree.TheOpen.{Tree-F}
 use Rattle.mf_model.specs.declared.form.Word.{Word}
 use Rattle.mf_model.specs.declared.form.Typed.{Typed}
-use Rattle.mf_model.specs.Forms.{IsLeaf, IsList, IsWord, IsHeaded, Headed, IsName, IsVariable, IsTerm, IsUntypedName, IsUntypedVariable, IsPredicate, reserved}
-use Rattle.mf_reader.specs.Gives.{◌>>=◌, each}
-use Rattle.mf_reader.specs.Reading.{word, untyped, name_leaf, name_layer, name_of, variable_leaf, variable_layer, variable_of, term_leaf, term_layer, term_of, has_text, is_word, behind_layer, behind, is_connective, is_operator, unreserved, predicate_of}
+use Rattle.mf_model.specs.Forms.{IsList, IsWord, IsHeaded, Headed, IsName, IsVariable, IsTerm, IsUntypedName, IsUntypedVariable, IsPredicate, reserved}
+use Rattle.mf_reader.specs.Gives.{◌>>=◌}
+use Rattle.mf_reader.specs.Reading.{word, untyped, name_layer, name_of, variable_layer, variable_of, term_layer, term_of, has_text, is_word, behind_layer, behind, is_connective, is_operator, unreserved, predicate_of}
 use Rattle.mf_reader.proofs.Readings.{Reads, bound, bind_is, unless_true, is_unless, when_true, is_when, some_is}
 
 -- Names, variables, terms

@@ -1,5 +1,5 @@
 -- What a call answered against what its definition gives: the value, or nothing.
-use Rattle.std.specs.Prelude.{◌≡◌, Option, Some, None, Result, Ok, Err, List, [], ◌∷◌, ◌++◌}
+use Rattle.std.specs.Prelude.{◌≡◌, Option, Some, None, Result, Ok, Err, List, ◌++◌}
 pub use Rattle.mf_model.specs.Options.{◌>>=◌, each}
 use Rattle.mf_reader.specs.declared.fault.Refusal.{Refusal}
 use Rattle.mf_reader.specs.declared.fault.Refusal.TheVariants.{Refused, Memory}

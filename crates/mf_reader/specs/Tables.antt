@@ -1,17 +1,13 @@
 -- Names entered one by one, and the task of a domain and a problem as one reading.
-use Rattle.std.specs.Prelude.{◌≡◌, ℕ, ◌≤◌, Bool, true, false, if◌then◌else◌, ◌&&◌, nat_le, Option, Some, None, is_some, List, [], ◌∷◌, ◌++◌, map, length, Result, Ok, Err, codes}
-use Rattle.mf_model.specs.declared.form.Domain.{Domain}
-use Rattle.mf_model.specs.declared.form.Problem.{Problem}
+use Rattle.std.specs.Prelude.{◌≡◌, ℕ, ◌≤◌, if◌then◌else◌, Option, Some, None, is_some, List, [], ◌∷◌, ◌++◌, map, length, Result, Ok, Err}
 use Rattle.mf_model.specs.declared.form.Header.{Header}
 use Rattle.mf_model.specs.declared.form.RawCond.{RawCond}
 use Rattle.mf_model.specs.declared.task.Atom.{Atom}
 use Rattle.mf_model.specs.declared.form.RawAction.{RawAction}
-use Rattle.mf_model.specs.declared.task.TypedTask.{TypedTask}
-use Rattle.mf_model.specs.declared.task.TypeName.{TypeName}
-use Rattle.mf_model.specs.Resolution.{Declared, declared_by, number_of, are_distinct, typed_names, symbol_of, action_of, fact_of, cond_of, object_of}
+use Rattle.mf_model.specs.Resolution.{Declared, number_of, fact_of}
 use Rattle.mf_reader.specs.declared.fault.Refusal.{Refusal}
 use Rattle.mf_reader.specs.declared.declared.Declared as tables
-use Rattle.mf_reader.specs.Gives.{◌>>=◌, each, Refuses}
+use Rattle.mf_reader.specs.Gives.{each, Refuses}
 
 -- names entered behind those that stand; nothing where one comes a second time
 abbrev pub extended : List (List ℕ) → List (List ℕ) → Option (List (List ℕ))

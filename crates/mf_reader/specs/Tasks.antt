@@ -1,5 +1,5 @@
 -- The task of a domain and a problem as one reading.
-use Rattle.std.specs.Prelude.{◌≡◌, ℕ, ◌+◌, Bool, true, false, if◌then◌else◌, ◌&&◌, nat_le, Option, Some, None, List, [], ◌∷◌, ◌++◌, map, length, codes}
+use Rattle.std.specs.Prelude.{ℕ, ◌+◌, if◌then◌else◌, ◌&&◌, nat_le, Option, Some, None, List, [], ◌∷◌, ◌++◌, map, length, codes}
 use Rattle.mf_model.specs.declared.form.Domain.{Domain}
 use Rattle.mf_model.specs.declared.form.Problem.{Problem}
 use Rattle.mf_model.specs.declared.form.Header.{Header}
@@ -11,7 +11,7 @@ use Rattle.mf_model.specs.declared.task.Object as object
 use Rattle.mf_model.specs.declared.task.Symbol.{Symbol}
 use Rattle.mf_model.specs.declared.task.TypedTask.{TypedTask}
 use Rattle.mf_model.specs.declared.task.TypeName.{TypeName}
-use Rattle.mf_model.specs.Resolution.{Declared, declared_by, are_distinct, typed_names, symbol_of, action_of, cond_of, object_of}
+use Rattle.mf_model.specs.Resolution.{Declared, are_distinct, typed_names, symbol_of, action_of, cond_of, object_of}
 use Rattle.mf_reader.specs.Gives.{◌>>=◌, each}
 use Rattle.mf_reader.specs.Tables.{facts_of, header_names, action_names}
 

@@ -27,7 +27,7 @@ struct Sizes {
     facts: usize,
 }
 
-fn sizes(alloc: Global, domain: &[u8], problem: &[u8]) -> Option<Sizes>
+fn read_sizes(alloc: Global, domain: &[u8], problem: &[u8]) -> Option<Sizes>
     requires domain_size { length domain.now ≤ 16777216 }
     requires problem_size { length problem.now ≤ 16777216 }
 {
@@ -70,7 +70,7 @@ fn rooms_are_read(rt: HostRuntime) {
         actions: 3,
         facts: 6,
     };
-    assert!(rt; sizes(rt.alloc(), ROOMS, ROOMS_1) == Some(wanted));
+    assert!(rt; read_sizes(rt.alloc(), ROOMS, ROOMS_1) == Some(wanted));
 }
 
 #[test]
