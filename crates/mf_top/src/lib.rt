@@ -7,6 +7,8 @@ mod deliver;
 mod load;
 mod outcome;
 mod request;
+#[cfg(test)]
+mod tests;
 mod texts;
 mod words;
 
