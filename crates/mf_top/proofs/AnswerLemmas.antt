@@ -43,7 +43,7 @@ pub task_told : (held : List ℕ → Option (List ℕ)) (d p : List ℕ) (loads 
     IsTaskOfLoads held d p loads task → held d ≡ Some domain → held p ≡ Some problem → IsTaskOfFiles domain problem task
 task_told held d p loads task domain problem loaded d_told p_told =
     subst (λ bytes. IsTaskOfFiles domain bytes task) (told_is (held p) loaded.problem_bytes problem loaded.read.problem_read p_told)
-      (subst (λ bytes. IsTaskOfFiles bytes loaded.problem_bytes task) (told_is (held d) loaded.domain_bytes domain loaded.read.domain_read d_told) loaded.of_files)
+    (subst (λ bytes. IsTaskOfFiles bytes loaded.problem_bytes task) (told_is (held d) loaded.domain_bytes domain loaded.read.domain_read d_told) loaded.of_files)
 
 -- a plan
 
@@ -173,7 +173,7 @@ budget_of_outcome held d p b loads history (BudgetReached n) ob oa eb ea domain 
   task = by_answer.task;
   of_files = task_told held d p loads by_answer.task domain problem by_answer.loaded d_told p_told;
   printed =
-    subst (λ ts. Appends (codes "budget reached after " ++ decimal (length ts) ++ codes " expansions\n") ob oa) (taken_is (space_of by_answer.task) history.entries)
+      subst (λ ts. Appends (codes "budget reached after " ++ decimal (length ts) ++ codes " expansions\n") ob oa) (taken_is (space_of by_answer.task) history.entries)
       (subst (λ m. Appends (codes "budget reached after " ++ decimal m ++ codes " expansions\n") ob oa) by_answer.ends.1 concluded.out);
 }
 budget_of_outcome held d p b loads history WordsRefused ob oa eb ea domain problem ends concluded d_told p_told = let six = concluded.decided in absurd (omega arith)
@@ -240,8 +240,8 @@ history_asked held None loads history outcome answer domain problem budget ends 
 history_asked held (Some (Plan d p b)) loads history outcome answer domain problem budget (inl (empty, ends)) is asks = inl empty
 history_asked held (Some (Plan d p b)) loads history outcome answer domain problem budget (inr by_answer) is asks =
     of_search held d p b loads history outcome answer domain problem budget by_answer.task
-      (task_told held d p loads by_answer.task domain problem by_answer.loaded asks.0 asks.1) asks.2 is
-      (search_returned by_answer.task b history outcome by_answer.ends)
+    (task_told held d p loads by_answer.task domain problem by_answer.loaded asks.0 asks.1) asks.2 is
+    (search_returned by_answer.task b history outcome by_answer.ends)
 
 pub history_searched : {held : List ℕ → Option (List ℕ)} {request : Option Request} {log_before log_after : List Loading}
     {out_before out_after err_before err_after : Option (List ℕ)} {answer : ℕ} {history : History} →
@@ -334,4 +334,4 @@ pub answer_searched : {held : List ℕ → Option (List ℕ)} {request : Option 
 answer_searched {held = held} {request = request} {log_before = before} {log_after = after} {out_before = ob} {out_after = oa} {err_before = eb} {err_after = ea} {answer = answer} {history = history} runs search domain problem budget asks =
     let said = concluded runs.outcome answer (not_five answer search) (not_eight answer search) runs.concludes refl in
     subst (IsHistoryOf domain problem budget history) said.decided
-      (answer_asked held request runs.loads history runs.outcome domain problem budget runs.ends (subst IsAnswer (sym said.decided) search) asks)
+    (answer_asked held request runs.loads history runs.outcome domain problem budget runs.ends (subst IsAnswer (sym said.decided) search) asks)

@@ -36,7 +36,7 @@ behind : (written text said : List ℕ) (m : ℕ) (ob oa : Option (List ℕ)) �
     take m text ≡ said
 behind written text said m ob oa told begun appends =
     let both : Some (written ++ said) ≡ Some (written ++ take m text) =
-        sym begun ∙ subst (λ o. oa ≡ option_map (λ w. w ++ take m text) o) told appends in
+    sym begun ∙ subst (λ o. oa ≡ option_map (λ w. w ++ take m text) o) told appends in
     let same : written ++ said ≡ written ++ take m text = cc in
     sym (front_rest (written ++ said) written (take m text) same) ∙ front_rest (written ++ said) written said refl
 
@@ -80,4 +80,4 @@ begun_none {held = held} {request = request} {log_before = before} {log_after = 
     let front = front_of_out runs.outcome ob oa eb ea runs.concludes.delivered runs.concludes.written in
     let same = behind begins.written (out_text runs.outcome) (take begins.more (codes "no plan\n")) front.0 ob oa begins.told begins.begun front.2 in
     no_plan_asked held request runs.loads history runs.outcome domain problem budget runs.ends
-      (begun_by held request runs.loads history runs.outcome front.0 begins.more runs.ends begins.some same) asks
+    (begun_by held request runs.loads history runs.outcome front.0 begins.more runs.ends begins.some same) asks

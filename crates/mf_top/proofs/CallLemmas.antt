@@ -92,7 +92,7 @@ pub two_refuses : {held : List ℕ → Option (List ℕ)} {request : Option Requ
     Runs held request log_before log_after out_before out_after err_before err_after answer history → answer ≡ 2 → request ≡ None
 two_refuses {held = held} {request = request} {history = history} runs two =
     refused_of held request runs.loads history runs.outcome runs.ends
-      (concluded runs.outcome 2 (omega arith) (omega arith) runs.concludes two).decided
+    (concluded runs.outcome 2 (omega arith) (omega arith) runs.concludes two).decided
 
 refused_stands : (history : History) (outcome : Outcome) (answer : ℕ) → EndsRefused outcome → Stands (status_of outcome) answer → Stands 2 answer
 refused_stands history WordsRefused answer ends is = is
@@ -160,7 +160,7 @@ front_in_order d p zero = record { rest = d ∷ p ∷ []; in_order = refl; going
 front_in_order d p (suc zero) = record { rest = p ∷ []; in_order = refl; going_on = tt }
 front_in_order d p (suc (suc n)) =
     in_order_by (d ∷ p ∷ []) (take (suc (suc n)) (found d ∷ found p ∷ [])) (found d ∷ found p ∷ [])
-      (ap (λ loads. found d ∷ found p ∷ loads) (nothing_taken n)) (record { rest = []; in_order = refl; going_on = (refl, tt) })
+    (ap (λ loads. found d ∷ found p ∷ loads) (nothing_taken n)) (record { rest = []; in_order = refl; going_on = (refl, tt) })
 
 both_in_order : (d p : List ℕ) (failed : Bool) → InOrder (d ∷ p ∷ []) (found d ∷ record { name = p; failed = failed } ∷ [])
 both_in_order d p failed = record { rest = []; in_order = refl; going_on = (refl, tt) }
@@ -246,7 +246,7 @@ pub four_failed : {held : List ℕ → Option (List ℕ)} {request : Option Requ
     answer ≡ 4 → IsTrue (last_failed (new_loads log_before log_after))
 four_failed {held = held} {request = request} {log_before = before} {log_after = after} {history = history} runs four =
     subst (λ loads. IsTrue (last_failed loads)) (new_loads_are before after runs.loads runs.logged)
-      (ends_failed held request runs.loads history runs.outcome runs.ends (concluded runs.outcome 4 (omega arith) (omega arith) runs.concludes four).decided)
+    (ends_failed held request runs.loads history runs.outcome runs.ends (concluded runs.outcome 4 (omega arith) (omega arith) runs.concludes four).decided)
 
 -- a load that found its file is not the failed one
 found_last : (loads these : List Loading) → loads ≡ these → last_failed these ≡ false → IsTrue (last_failed loads) → ⊥
@@ -313,4 +313,4 @@ pub four_says : {held : List ℕ → Option (List ℕ)} {request : Option Reques
     answer ≡ 4 → (out_after ≡ out_before) × SaysUnread (new_loads log_before log_after) err_before err_after
 four_says {held = held} {request = request} {log_before = before} {log_after = after} {out_before = ob} {out_after = oa} {err_before = eb} {err_after = ea} {history = history} runs four =
     subst (λ loads. (oa ≡ ob) × SaysUnread loads eb ea) (new_loads_are before after runs.loads runs.logged)
-      (ends_says held request runs.loads history runs.outcome ob oa eb ea runs.ends (concluded runs.outcome 4 (omega arith) (omega arith) runs.concludes four))
+    (ends_says held request runs.loads history runs.outcome ob oa eb ea runs.ends (concluded runs.outcome 4 (omega arith) (omega arith) runs.concludes four))

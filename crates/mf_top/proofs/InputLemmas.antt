@@ -49,27 +49,38 @@ refused_says : (held : List ℕ → Option (List ℕ)) (d p : List ℕ) (b : ℕ
 refused_says held d p b loads (TooLong name) eb ea domain problem (inl (is, noted)) three err d_told p_told =
     inl (told_long (held d) domain noted.1 d_told, subst (λ n. Appends (n ++ codes ": longer than 16777216 bytes\n") eb ea) is err)
 refused_says held d p b loads (TooLong name) eb ea domain problem (inr (is, noted, (bytes, read))) three err d_told p_told =
-    inr (inl (told_allowed (held d) bytes domain read d_told, told_long (held p) problem noted.1 p_told,
-      subst (λ n. Appends (n ++ codes ": longer than 16777216 bytes\n") eb ea) is err))
+    inr (inl (
+      told_allowed (held d) bytes domain read d_told,
+      told_long (held p) problem noted.1 p_told,
+      subst (λ n. Appends (n ++ codes ": longer than 16777216 bytes\n") eb ea) is err,
+    ))
 refused_says held d p b loads (NotBuilt name) eb ea domain problem ends three err d_told p_told =
     not_built_says ends.refused
   where
     d_is : ends.domain_bytes ≡ domain
     d_is = told_is (held d) ends.domain_bytes domain ends.read.domain_read d_told
+
     p_is : ends.problem_bytes ≡ problem
     p_is = told_is (held p) ends.problem_bytes problem ends.read.problem_read p_told
+
     d_fits : length domain ≤ greatest_length
     d_fits = told_allowed (held d) ends.domain_bytes domain ends.read.domain_read d_told
+
     p_fits : length problem ≤ greatest_length
     p_fits = told_allowed (held p) ends.problem_bytes problem ends.read.problem_read p_told
+
     not_built_says : IsRefused d p ends.domain_bytes ends.problem_bytes name → SaysRefused (Some (Plan d p b)) domain problem eb ea
     not_built_says (inl (is, refused)) =
         inr (inr (inl (d_fits, p_fits, subst (λ bytes. IsBuiltDomain bytes → ⊥) d_is refused, subst (λ n. Appends (n ++ codes ": not built\n") eb ea) is err)))
     not_built_says (inr (is, built, none)) =
-        inr (inr (inr (d_fits, p_fits, subst IsBuiltDomain d_is built,
+        inr (inr (inr (
+          d_fits,
+          p_fits,
+          subst IsBuiltDomain d_is built,
           subst (λ bytes. (task : TypedTask) → IsTaskOfFiles domain bytes task → ⊥) p_is
-            (subst (λ bytes. (task : TypedTask) → IsTaskOfFiles bytes ends.problem_bytes task → ⊥) d_is none),
-          subst (λ n. Appends (n ++ codes ": not built\n") eb ea) is err)))
+              (subst (λ bytes. (task : TypedTask) → IsTaskOfFiles bytes ends.problem_bytes task → ⊥) d_is none),
+          subst (λ n. Appends (n ++ codes ": not built\n") eb ea) is err,
+        )))
 refused_says held d p b loads WordsRefused eb ea domain problem ends three err d_told p_told = absurd (omega arith)
 refused_says held d p b loads (CannotRead name) eb ea domain problem ends three err d_told p_told = absurd (omega arith)
 refused_says held d p b loads (PlanFound text) eb ea domain problem ends three err d_told p_told = absurd (omega arith)
@@ -147,8 +158,8 @@ pub refused_input_stands : {held : List ℕ → Option (List ℕ)} {request : Op
     IsRefusedInput domain problem → Stands 3 answer
 refused_input_stands {held = held} {request = request} {log_before = before} {log_after = after} {out_before = ob} {out_after = oa} {err_before = eb} {err_after = ea} {answer = answer} {history = history} runs none domain problem budget asks refused =
     refusal_asked held request runs.loads history runs.outcome answer domain problem budget runs.ends
-      (subst (λ loads. IsTrue (last_failed loads) → ⊥) (sym (new_loads_are before after runs.loads runs.logged)) none)
-      (stands runs.outcome runs.concludes) asks refused
+    (subst (λ loads. IsTrue (last_failed loads) → ⊥) (sym (new_loads_are before after runs.loads runs.logged)) none)
+    (stands runs.outcome runs.concludes) asks refused
 
 -- completeness
 
@@ -183,10 +194,10 @@ pub complete : {held : List ℕ → Option (List ℕ)} {request : Option Request
     (task : TypedTask) → IsTaskOfFiles domain problem task → IsComplete answer
 complete {held = held} {request = request} {log_before = before} {log_after = after} {out_before = ob} {out_after = oa} {err_before = eb} {err_after = ea} {answer = answer} {history = history} runs no_fault none domain problem budget asks d_fits p_fits task of_files =
     decided_answer answer (is_status runs)
-      (λ two. asked_some held request domain problem budget asks (two_refuses runs two))
-      (λ three. not_refused_by domain problem d_fits p_fits task of_files (three_refused runs three domain problem budget asks))
-      (λ four. none (four_failed runs four))
-      no_fault
+    (λ two. asked_some held request domain problem budget asks (two_refuses runs two))
+    (λ three. not_refused_by domain problem d_fits p_fits task of_files (three_refused runs three domain problem budget asks))
+    (λ four. none (four_failed runs four))
+    no_fault
 
 -- no sink's count rose
 pub no_write_fault : (answer out_before out_after err_before err_after : ℕ) →

@@ -72,5 +72,5 @@ pub no_plan_exists : (task : TypedTask) (budget : ℕ) (searched : Searched) →
     searched.status ≡ status.NoPlan → (steps : List Instance) → IsPlan task steps → ⊥
 no_plan_exists task budget searched plain is none steps valid =
     no_plan_is_right (space_of task) budget 1 searched.history.entries is.legal
-      (subst (Answers budget (world_of task searched.history)) none is.answers) (λ state infinite leads. cc)
-      (steps_lead task (start_of task) steps plain valid)
+    (subst (Answers budget (world_of task searched.history)) none is.answers) (λ state infinite leads. cc)
+    (steps_lead task (start_of task) steps plain valid)

@@ -29,7 +29,7 @@ after-never_wide : (task : TypedTask) (budget : ℕ) (w : World PlainState) (ent
 after-never_wide task budget w [] never legal = never
 after-never_wide task budget w (Take worker i ∷ entries) never legal =
     after-never_wide task budget (next (space_of task) w (Take worker i)) entries
-      (took-never_wide (eqb (at (space_of task) w.opened i).value 0) w worker i never) legal.1
+    (took-never_wide (eqb (at (space_of task) w.opened i).value 0) w worker i never) legal.1
 after-never_wide task budget w (Done worker i ∷ entries) never legal =
     after-never_wide task budget (next (space_of task) w (Done worker i)) entries never legal.1
 after-never_wide task budget w (Wide worker i n ∷ entries) never legal = let out = legal.0.leads_out in cc
@@ -41,4 +41,4 @@ no_other_answer task budget searched is (inl running) = subst (Answers budget (w
 no_other_answer task budget searched is (inr (inl halted)) = subst (Answers budget (world_of task searched.history)) halted is.answers
 no_other_answer task budget searched is (inr (inr (i, n, wide))) =
     after-never_wide task budget (begin (space_of task)) searched.history.entries (λ i n ends. cc) is.legal i n
-      (subst (Answers budget (world_of task searched.history)) wide is.answers)
+    (subst (Answers budget (world_of task searched.history)) wide is.answers)

@@ -8,8 +8,8 @@ pub in_range-large : (n : ℕ) (bs : List ℕ) → greatest_budget < n → in_ra
 in_range-large n [] large = grind arith
 in_range-large n (b ∷ bs) large =
     elim (is_ascii_digit b) as (λ v. in_range (cond v (number_after (10 * n + (b - 48)) bs) None) ≡ None) [
-      true ↦ in_range-large (10 * n + (b - 48)) bs (omega arith)
-    | false ↦ refl
+      | true ↦ in_range-large (10 * n + (b - 48)) bs (omega arith)
+      | false ↦ refl
     ]
 
 cond-none : (b : Bool) → cond {A = Option ℕ} b None None ≡ None

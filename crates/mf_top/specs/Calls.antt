@@ -1,5 +1,5 @@
 -- What can be relied on after a call: the words in which its clauses are said.
-use Rattle.std.specs.Prelude.{◌≡◌, ℕ, ◌<◌, ◌≤◌, ◌⊎◌, Bool, true, false, Option, Some, None, List, [], ◌∷◌, ◌++◌, length, map, drop, take, codes, Contains}
+use Rattle.std.specs.Prelude.{◌≡◌, ℕ, ◌<◌, ◌≤◌, ◌⊎◌, IsTrue, Bool, true, false, Option, Some, None, List, [], ◌∷◌, ◌++◌, length, map, drop, take, codes, Contains}
 use Rattle.std.specs.Fmt.{decimal}
 use Rattle.mf_io.specs.declared.folder.Loading.{Loading}
 use Rattle.mf_io.specs.Sink.{Appends}
@@ -29,6 +29,10 @@ abbrev pub Asks : (List ℕ → Option (List ℕ)) → Option Request → (domai
 Asks held (Some (Plan domain_name problem_name n)) domain problem budget = (held domain_name ≡ Some domain) × (held problem_name ≡ Some problem) × (n ≡ budget)
 Asks held None domain problem budget = ⊥
 
+-- the fact holds of the bytes of the two files that are asked for, and of the budget, where the folder tells the bytes
+abbrev pub WhereTold : (List ℕ → Option (List ℕ)) → Option Request → (List ℕ → List ℕ → ℕ → Type 0) → Type 0
+WhereTold held request Fact = (domain problem : List ℕ) (budget : ℕ) → Asks held request domain problem budget → Fact domain problem budget
+
 -- the status is this one, unless a put failed or memory was wanting
 abbrev pub Stands : ℕ → ℕ → Type 0
 Stands status answer = (answer ≡ status) ⊎ (answer ≡ 5) ⊎ (answer ≡ 8)
@@ -50,6 +54,10 @@ abbrev pub last_failed : List Loading → Bool
 last_failed [] = false
 last_failed (load ∷ []) = load.failed
 last_failed (load ∷ next ∷ loads) = last_failed (next ∷ loads)
+
+-- the last load of the call failed
+abbrev pub LastLoadFailed : List Loading → List Loading → Type 0
+LastLoadFailed before after = IsTrue (last_failed (new_loads before after))
 
 -- no load but the last failed
 abbrev pub OnlyLastFailed : List Loading → Type 0
@@ -108,7 +116,7 @@ SaysRefused (Some (Plan domain_name problem_name budget)) domain problem before 
     ⊎ ((length domain ≤ greatest_length) × (greatest_length < length problem) × Appends (problem_name ++ codes ": longer than 16777216 bytes\n") before after)
     ⊎ ((length domain ≤ greatest_length) × (length problem ≤ greatest_length) × (IsBuiltDomain domain → ⊥) × Appends (domain_name ++ codes ": not built\n") before after)
     ⊎ ((length domain ≤ greatest_length) × (length problem ≤ greatest_length) × IsBuiltDomain domain × ((task : TypedTask) → IsTaskOfFiles domain problem task → ⊥)
-      × Appends (problem_name ++ codes ": not built\n") before after)
+    × Appends (problem_name ++ codes ": not built\n") before after)
 SaysRefused None domain problem before after = ⊥
 
 -- the answers of a search
@@ -152,7 +160,7 @@ pub record IsGreedySearch (domain problem : List ℕ) (budget : ℕ) (history : 
   pub apart : AllDifferent (opened_states (world_of task history))
   -- each taken state is the last member of a greedy run, and so are the taken states, in their order, themselves one
   pub reached : (i : ℕ) → Contains (takes history.entries) i →
-    IsGreedyRunTo (space_of task) (rebuilt_run (space_of task) history.entries i) (at (space_of task) (world_of task history).opened i).state
+      IsGreedyRunTo (space_of task) (rebuilt_run (space_of task) history.entries i) (at (space_of task) (world_of task history).opened i).state
   pub greedy : Greedy (space_of task) (states_of (space_of task) (world_of task history).opened (takes history.entries))
   -- no other legal history for one worker has an answer
   pub only : (entries : List Entry) → Legal (space_of task) budget 1 entries → Ended budget (world (space_of task) entries) → entries ≡ history.entries

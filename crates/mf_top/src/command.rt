@@ -1,6 +1,6 @@
-ghost use Rattle.std.specs.Prelude.{◌≡◌, ◌≤◌, ◌⊎◌, map, string_bytes, Some, None, IsTrue, codes, length, ℕ, List};
+ghost use Rattle.std.specs.Prelude.{◌≡◌, ◌≢◌, ◌≤◌, ◌⊎◌, map, string_bytes, Some, None, codes, length, ℕ, List};
 ghost use Rattle.mf_io.specs.Sink.{Appends, Rose};
-ghost use Rattle.mf_top.specs.Calls.{Asks, BeginsNoPlan, IsRefusedInput, SaysRefused, IsComplete, PrintsPlan, HasNoPlan, SaysBudget, IsAnswer, IsHistoryOf, IsEmptyOr, IsGreedySearch, Stands, IsStatus, GrowsBy, SaysUnread, files_of, last_failed, new_loads};
+ghost use Rattle.mf_top.specs.Calls.{WhereTold, LastLoadFailed, BeginsNoPlan, IsRefusedInput, SaysRefused, IsComplete, PrintsPlan, HasNoPlan, SaysBudget, IsAnswer, IsHistoryOf, IsEmptyOr, IsGreedySearch, Stands, IsStatus, GrowsBy, SaysUnread, files_of, new_loads};
 ghost use Rattle.mf_top.specs.Outcome.{Concludes, Runs, no_history};
 ghost use Rattle.mf_model.specs.declared.task.TypedTask.{TypedTask};
 ghost use Rattle.mf_top.specs.Loads.{greatest_length};
@@ -67,39 +67,49 @@ pub fn plan_one<F: Folder, O: Sink, E: Sink>(
     requires { IsRequest request.now }
     ensures answer { Runs (F.held files.old) (Some request.now) (F.log files.old) (F.log files.new)
         (O.written out.old) (O.written out.new) (E.written err.old) (E.written err.new) result.status result.history }
-    ensures refused { result.status ≡ 2 → (Some request.now) ≡ None }
-    ensures refusal { (Some request.now) ≡ None → Stands 2 result.status }
-    ensures refusal_text { result.status ≡ 2 → (O.written out.new ≡ O.written out.old) × Appends (codes "words refused\n") (E.written err.old) (E.written err.new) }
-    ensures unloaded { (Some request.now) ≡ None → F.log files.new ≡ F.log files.old }
+    ensures accepted { result.status ≢ 2 }
+
+    // The loads, and read faults.
     ensures log { GrowsBy (files_of (Some request.now)) (F.log files.old) (F.log files.new) }
-    ensures unread { result.status ≡ 4 → IsTrue (last_failed (new_loads (F.log files.old) (F.log files.new))) }
-    ensures read_fault { IsTrue (last_failed (new_loads (F.log files.old) (F.log files.new))) → Stands 4 result.status }
+    ensures unread { result.status ≡ 4 → LastLoadFailed (F.log files.old) (F.log files.new) }
+    ensures read_fault { LastLoadFailed (F.log files.old) (F.log files.new) → Stands 4 result.status }
     ensures unread_text { result.status ≡ 4 → (O.written out.new ≡ O.written out.old)
         × SaysUnread (new_loads (F.log files.old) (F.log files.new)) (E.written err.old) (E.written err.new) }
-    ensures plan { result.status ≡ 0 → (domain problem : List ℕ) (budget : ℕ) → Asks (F.held files.old) (Some request.now) domain problem budget
-        → PrintsPlan domain problem (O.written out.old) (O.written out.new) }
-    ensures no_plan { result.status ≡ 1 → (domain problem : List ℕ) (budget : ℕ) → Asks (F.held files.old) (Some request.now) domain problem budget → HasNoPlan domain problem }
+
+    // The refusal of the input.
+    ensures refused_input { result.status ≡ 3 → WhereTold (F.held files.old) (Some request.now) (λ domain problem budget.
+        IsRefusedInput domain problem) }
+    ensures input_refusal { ¬ LastLoadFailed (F.log files.old) (F.log files.new) → WhereTold (F.held files.old) (Some request.now) (λ domain problem budget.
+        IsRefusedInput domain problem → Stands 3 result.status) }
+    ensures refused_text { result.status ≡ 3 → WhereTold (F.held files.old) (Some request.now) (λ domain problem budget.
+        SaysRefused (Some request.now) domain problem (E.written err.old) (E.written err.new)) }
+
+    // The answers of the search.
+    ensures plan { result.status ≡ 0 → WhereTold (F.held files.old) (Some request.now) (λ domain problem budget.
+        PrintsPlan domain problem (O.written out.old) (O.written out.new)) }
+    ensures no_plan { result.status ≡ 1 → WhereTold (F.held files.old) (Some request.now) (λ domain problem budget.
+        HasNoPlan domain problem) }
     ensures no_plan_text { result.status ≡ 1 → Appends (codes "no plan\n") (O.written out.old) (O.written out.new) }
-    ensures no_plan_begun { BeginsNoPlan (O.written out.old) (O.written out.new) → (domain problem : List ℕ) (budget : ℕ) → Asks (F.held files.old) (Some request.now) domain problem budget → HasNoPlan domain problem }
-    ensures budget_text { result.status ≡ 6 → (domain problem : List ℕ) (budget : ℕ) → Asks (F.held files.old) (Some request.now) domain problem budget
-        → SaysBudget domain problem result.history (O.written out.old) (O.written out.new) }
+    ensures no_plan_begun { BeginsNoPlan (O.written out.old) (O.written out.new) → WhereTold (F.held files.old) (Some request.now) (λ domain problem budget.
+        HasNoPlan domain problem) }
+    ensures budget_text { result.status ≡ 6 → WhereTold (F.held files.old) (Some request.now) (λ domain problem budget.
+        SaysBudget domain problem result.history (O.written out.old) (O.written out.new)) }
     ensures quiet { IsAnswer result.status → E.written err.new ≡ E.written err.old }
-    ensures answered { IsAnswer result.status → (domain problem : List ℕ) (budget : ℕ) → Asks (F.held files.old) (Some request.now) domain problem budget
-        → IsHistoryOf domain problem budget result.history result.status }
-    ensures searched { (domain problem : List ℕ) (budget : ℕ) → Asks (F.held files.old) (Some request.now) domain problem budget
-        → IsEmptyOr result.history (IsHistoryOf domain problem budget result.history result.status) }
-    ensures greedy { (domain problem : List ℕ) (budget : ℕ) → Asks (F.held files.old) (Some request.now) domain problem budget
-        → IsEmptyOr result.history (IsGreedySearch domain problem budget result.history) }
-    ensures refused_input { result.status ≡ 3 → (domain problem : List ℕ) (budget : ℕ) → Asks (F.held files.old) (Some request.now) domain problem budget → IsRefusedInput domain problem }
-    ensures input_refusal { (IsTrue (last_failed (new_loads (F.log files.old) (F.log files.new))) → ⊥) → (domain problem : List ℕ) (budget : ℕ) → Asks (F.held files.old) (Some request.now) domain problem budget
-        → IsRefusedInput domain problem → Stands 3 result.status }
-    ensures refused_text { result.status ≡ 3 → (domain problem : List ℕ) (budget : ℕ) → Asks (F.held files.old) (Some request.now) domain problem budget
-        → SaysRefused (Some request.now) domain problem (E.written err.old) (E.written err.new) }
-    ensures complete { (IsTrue (last_failed (new_loads (F.log files.old) (F.log files.new))) → ⊥)
-        → (Rose (O.faults out.old) (O.faults out.new) → ⊥) → (Rose (E.faults err.old) (E.faults err.new) → ⊥)
-        → (domain problem : List ℕ) (budget : ℕ) → Asks (F.held files.old) (Some request.now) domain problem budget
-        → length domain ≤ greatest_length → length problem ≤ greatest_length → (task : TypedTask) → IsTaskOfFiles domain problem task
-        → IsComplete result.status }
+
+    // The history: no state is taken twice, and each is taken by a one-thread greedy best-first run.
+    ensures answered { IsAnswer result.status → WhereTold (F.held files.old) (Some request.now) (λ domain problem budget.
+        IsHistoryOf domain problem budget result.history result.status) }
+    ensures searched { WhereTold (F.held files.old) (Some request.now) (λ domain problem budget.
+        IsEmptyOr result.history (IsHistoryOf domain problem budget result.history result.status)) }
+    ensures greedy { WhereTold (F.held files.old) (Some request.now) (λ domain problem budget.
+        IsEmptyOr result.history (IsGreedySearch domain problem budget result.history)) }
+
+    // Where nothing failed the call is answered, and a write fault comes only where a sink's count rose.
+    ensures complete { ¬ LastLoadFailed (F.log files.old) (F.log files.new)
+        → ¬ Rose (O.faults out.old) (O.faults out.new) → ¬ Rose (E.faults err.old) (E.faults err.new)
+        → WhereTold (F.held files.old) (Some request.now) (λ domain problem budget.
+        length domain ≤ greatest_length → length problem ≤ greatest_length
+        → (task : TypedTask) → IsTaskOfFiles domain problem task → IsComplete result.status) }
     ensures status { IsStatus result.status }
     ensures write_fault { result.status ≡ 5 → Rose (O.faults out.old) (O.faults out.new) ⊎ Rose (E.faults err.old) (E.faults err.new) }
     ensures out_counted { O.faults out.old ≤ O.faults out.new }
@@ -161,37 +171,51 @@ pub fn run<F: Folder, O: Sink, E: Sink>(
         (O.written out.old) (O.written out.new) (E.written err.old) (E.written err.new) result.status result.history }
     ensures refused { result.status ≡ 2 → (request_of (map string_bytes words.now)) ≡ None }
     ensures refusal { (request_of (map string_bytes words.now)) ≡ None → Stands 2 result.status }
-    ensures refusal_text { result.status ≡ 2 → (O.written out.new ≡ O.written out.old) × Appends (codes "words refused\n") (E.written err.old) (E.written err.new) }
     ensures unloaded { (request_of (map string_bytes words.now)) ≡ None → F.log files.new ≡ F.log files.old }
+    ensures refusal_text { result.status ≡ 2 → (O.written out.new ≡ O.written out.old)
+        × Appends (codes "words refused\n") (E.written err.old) (E.written err.new) }
+
+    // The loads, and read faults.
     ensures log { GrowsBy (files_of (request_of (map string_bytes words.now))) (F.log files.old) (F.log files.new) }
-    ensures unread { result.status ≡ 4 → IsTrue (last_failed (new_loads (F.log files.old) (F.log files.new))) }
-    ensures read_fault { IsTrue (last_failed (new_loads (F.log files.old) (F.log files.new))) → Stands 4 result.status }
+    ensures unread { result.status ≡ 4 → LastLoadFailed (F.log files.old) (F.log files.new) }
+    ensures read_fault { LastLoadFailed (F.log files.old) (F.log files.new) → Stands 4 result.status }
     ensures unread_text { result.status ≡ 4 → (O.written out.new ≡ O.written out.old)
         × SaysUnread (new_loads (F.log files.old) (F.log files.new)) (E.written err.old) (E.written err.new) }
-    ensures plan { result.status ≡ 0 → (domain problem : List ℕ) (budget : ℕ) → Asks (F.held files.old) (request_of (map string_bytes words.now)) domain problem budget
-        → PrintsPlan domain problem (O.written out.old) (O.written out.new) }
-    ensures no_plan { result.status ≡ 1 → (domain problem : List ℕ) (budget : ℕ) → Asks (F.held files.old) (request_of (map string_bytes words.now)) domain problem budget → HasNoPlan domain problem }
+
+    // The refusal of the input.
+    ensures refused_input { result.status ≡ 3 → WhereTold (F.held files.old) (request_of (map string_bytes words.now)) (λ domain problem budget.
+        IsRefusedInput domain problem) }
+    ensures input_refusal { ¬ LastLoadFailed (F.log files.old) (F.log files.new) → WhereTold (F.held files.old) (request_of (map string_bytes words.now)) (λ domain problem budget.
+        IsRefusedInput domain problem → Stands 3 result.status) }
+    ensures refused_text { result.status ≡ 3 → WhereTold (F.held files.old) (request_of (map string_bytes words.now)) (λ domain problem budget.
+        SaysRefused (request_of (map string_bytes words.now)) domain problem (E.written err.old) (E.written err.new)) }
+
+    // The answers of the search.
+    ensures plan { result.status ≡ 0 → WhereTold (F.held files.old) (request_of (map string_bytes words.now)) (λ domain problem budget.
+        PrintsPlan domain problem (O.written out.old) (O.written out.new)) }
+    ensures no_plan { result.status ≡ 1 → WhereTold (F.held files.old) (request_of (map string_bytes words.now)) (λ domain problem budget.
+        HasNoPlan domain problem) }
     ensures no_plan_text { result.status ≡ 1 → Appends (codes "no plan\n") (O.written out.old) (O.written out.new) }
-    ensures no_plan_begun { BeginsNoPlan (O.written out.old) (O.written out.new) → (domain problem : List ℕ) (budget : ℕ) → Asks (F.held files.old) (request_of (map string_bytes words.now)) domain problem budget → HasNoPlan domain problem }
-    ensures budget_text { result.status ≡ 6 → (domain problem : List ℕ) (budget : ℕ) → Asks (F.held files.old) (request_of (map string_bytes words.now)) domain problem budget
-        → SaysBudget domain problem result.history (O.written out.old) (O.written out.new) }
+    ensures no_plan_begun { BeginsNoPlan (O.written out.old) (O.written out.new) → WhereTold (F.held files.old) (request_of (map string_bytes words.now)) (λ domain problem budget.
+        HasNoPlan domain problem) }
+    ensures budget_text { result.status ≡ 6 → WhereTold (F.held files.old) (request_of (map string_bytes words.now)) (λ domain problem budget.
+        SaysBudget domain problem result.history (O.written out.old) (O.written out.new)) }
     ensures quiet { IsAnswer result.status → E.written err.new ≡ E.written err.old }
-    ensures answered { IsAnswer result.status → (domain problem : List ℕ) (budget : ℕ) → Asks (F.held files.old) (request_of (map string_bytes words.now)) domain problem budget
-        → IsHistoryOf domain problem budget result.history result.status }
-    ensures searched { (domain problem : List ℕ) (budget : ℕ) → Asks (F.held files.old) (request_of (map string_bytes words.now)) domain problem budget
-        → IsEmptyOr result.history (IsHistoryOf domain problem budget result.history result.status) }
-    ensures greedy { (domain problem : List ℕ) (budget : ℕ) → Asks (F.held files.old) (request_of (map string_bytes words.now)) domain problem budget
-        → IsEmptyOr result.history (IsGreedySearch domain problem budget result.history) }
-    ensures refused_input { result.status ≡ 3 → (domain problem : List ℕ) (budget : ℕ) → Asks (F.held files.old) (request_of (map string_bytes words.now)) domain problem budget → IsRefusedInput domain problem }
-    ensures input_refusal { (IsTrue (last_failed (new_loads (F.log files.old) (F.log files.new))) → ⊥) → (domain problem : List ℕ) (budget : ℕ) → Asks (F.held files.old) (request_of (map string_bytes words.now)) domain problem budget
-        → IsRefusedInput domain problem → Stands 3 result.status }
-    ensures refused_text { result.status ≡ 3 → (domain problem : List ℕ) (budget : ℕ) → Asks (F.held files.old) (request_of (map string_bytes words.now)) domain problem budget
-        → SaysRefused (request_of (map string_bytes words.now)) domain problem (E.written err.old) (E.written err.new) }
-    ensures complete { (IsTrue (last_failed (new_loads (F.log files.old) (F.log files.new))) → ⊥)
-        → (Rose (O.faults out.old) (O.faults out.new) → ⊥) → (Rose (E.faults err.old) (E.faults err.new) → ⊥)
-        → (domain problem : List ℕ) (budget : ℕ) → Asks (F.held files.old) (request_of (map string_bytes words.now)) domain problem budget
-        → length domain ≤ greatest_length → length problem ≤ greatest_length → (task : TypedTask) → IsTaskOfFiles domain problem task
-        → IsComplete result.status }
+
+    // The history: no state is taken twice, and each is taken by a one-thread greedy best-first run.
+    ensures answered { IsAnswer result.status → WhereTold (F.held files.old) (request_of (map string_bytes words.now)) (λ domain problem budget.
+        IsHistoryOf domain problem budget result.history result.status) }
+    ensures searched { WhereTold (F.held files.old) (request_of (map string_bytes words.now)) (λ domain problem budget.
+        IsEmptyOr result.history (IsHistoryOf domain problem budget result.history result.status)) }
+    ensures greedy { WhereTold (F.held files.old) (request_of (map string_bytes words.now)) (λ domain problem budget.
+        IsEmptyOr result.history (IsGreedySearch domain problem budget result.history)) }
+
+    // Where nothing failed the call is answered, and a write fault comes only where a sink's count rose.
+    ensures complete { ¬ LastLoadFailed (F.log files.old) (F.log files.new)
+        → ¬ Rose (O.faults out.old) (O.faults out.new) → ¬ Rose (E.faults err.old) (E.faults err.new)
+        → WhereTold (F.held files.old) (request_of (map string_bytes words.now)) (λ domain problem budget.
+        length domain ≤ greatest_length → length problem ≤ greatest_length
+        → (task : TypedTask) → IsTaskOfFiles domain problem task → IsComplete result.status) }
     ensures status { IsStatus result.status }
     ensures write_fault { result.status ≡ 5 → Rose (O.faults out.old) (O.faults out.new) ⊎ Rose (E.faults err.old) (E.faults err.new) }
     ensures out_counted { O.faults out.old ≤ O.faults out.new }

@@ -9,9 +9,9 @@ ghost use Rattle.mf_top.specs.Loads.{greatest_length};
 ghost use Rattle.mf_top.specs.Words.{IsRequest};
 ghost use Rattle.mf_top.specs.Outcome.{no_history, LoadsTask, EndsSearch, Ends, EndsPlan, ReadsTask, GivesPlan};
 
-use crate::{Outcome, Request};
 use crate::load::load_file;
 use crate::texts::plan_text;
+use crate::{Outcome, Request};
 use mf_io::Folder;
 use mf_model::{FileKind, List, Text, TypedTask};
 use mf_plain::{History, Searched, Status, TraceFault, plan_of, search};

@@ -7,11 +7,12 @@ mod deliver;
 mod load;
 mod outcome;
 mod request;
-
+#[cfg(test)]
+mod tests;
 mod texts;
 mod words;
 
+pub use command::{Ended, plan_one, run};
 pub use load::GREATEST_LENGTH;
 pub use outcome::Outcome;
 pub use request::Request;
-pub use command::{Ended, plan_one, run};

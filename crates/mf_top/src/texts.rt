@@ -123,7 +123,12 @@ pub(crate) fn err_text(alloc: Global, outcome: &Outcome) -> Result<Text, Memory>
     match outcome {
         Outcome::WordsRefused => Ok(Text::from_slice(alloc, b"words refused\n")?),
         Outcome::CannotRead { name } => joined(alloc, b"cannot read ", name.as_slice(), b"\n"),
-        Outcome::TooLong { name } => joined(alloc, b"", name.as_slice(), b": longer than 16777216 bytes\n"),
+        Outcome::TooLong { name } => joined(
+            alloc,
+            b"",
+            name.as_slice(),
+            b": longer than 16777216 bytes\n",
+        ),
         Outcome::NotBuilt { name } => joined(alloc, b"", name.as_slice(), b": not built\n"),
         Outcome::PlanFound { .. }
         | Outcome::NoPlan

@@ -7,6 +7,7 @@ use mf_model::Text;
 use std::alloc::{AllocError, Global};
 
 const DEFAULT_BUDGET: u64 = 1_000_000;
+
 const GREATEST_BUDGET: u64 = 1_000_000_000_000;
 
 // A budget of 1 to 20 decimal digits, if it lies in its range.
@@ -61,15 +62,13 @@ pub(crate) fn read_words(alloc: Global, words: &[String]) -> Result<Option<Reque
 {
     match words {
         [command, domain, problem, option, value]
-            if command.as_str() == "plan" && asks_for_goals(option.as_str(), value.as_str()) =>
-        {
+            if command.as_str() == "plan" && asks_for_goals(option.as_str(), value.as_str()) => {
             plan_within(alloc, domain, problem, DEFAULT_BUDGET)
         }
         [command, domain, problem, limit, number, option, value]
             if command.as_str() == "plan"
                 && limit.as_str() == "--budget"
-                && asks_for_goals(option.as_str(), value.as_str()) =>
-        {
+                && asks_for_goals(option.as_str(), value.as_str()) => {
             match read_budget(number.as_bytes()) {
                 Some(budget) => plan_within(alloc, domain, problem, budget),
                 None => Ok(None),

@@ -1,20 +1,8 @@
 use Rattle.mf_top.proofs.BegunLemmas.{begun_none}
-use Rattle.mf_top.proofs.CallLemmas.{two_refuses, refusal_stands, two_says, refusal_unloaded, log_grows, four_failed, failed_stands, four_says, is_status}
+use Rattle.mf_top.proofs.CallLemmas.{two_refuses, log_grows, four_failed, failed_stands, four_says, is_status}
 use Rattle.mf_top.proofs.AnswerLemmas.{zero_prints, one_none, one_says, six_says, answer_quiet, answer_searched, history_searched, history_greedy}
 use Rattle.mf_top.proofs.InputLemmas.{three_refused, three_says, refused_input_stands, complete, no_write_fault}
 use Rattle.mf_top.proofs.command.plan_one.Goals as goal
-
-pub returns-clause-refused : goal.returns-clause-refused
-returns-clause-refused g c = two_refuses c.call_plan.ensures.answer
-
-pub returns-clause-refusal : goal.returns-clause-refusal
-returns-clause-refusal g c = refusal_stands c.call_plan.ensures.answer
-
-pub returns-clause-refusal_text : goal.returns-clause-refusal_text
-returns-clause-refusal_text g c = two_says c.call_plan.ensures.answer
-
-pub returns-clause-unloaded : goal.returns-clause-unloaded
-returns-clause-unloaded g c = refusal_unloaded c.call_plan.ensures.answer
 
 pub returns-clause-log : goal.returns-clause-log
 returns-clause-log g c = log_grows c.call_plan.ensures.answer
@@ -67,9 +55,12 @@ returns-clause-refused_text g c = three_says c.call_plan.ensures.answer
 pub returns-clause-complete : goal.returns-clause-complete
 returns-clause-complete g c none out err =
     complete c.call_plan.ensures.answer
-      (no_write_fault c.call_plan.result.status (g.O.Sink.faults c.args.out.now) (g.O.Sink.faults c.call_plan.new.out) (g.E.Sink.faults c.args.err.now) (g.E.Sink.faults c.call_plan.new.err)
-        c.call_plan.ensures.write_fault out err)
-      none
+    (no_write_fault c.call_plan.result.status (g.O.Sink.faults c.args.out.now) (g.O.Sink.faults c.call_plan.new.out) (g.E.Sink.faults c.args.err.now) (g.E.Sink.faults c.call_plan.new.err)
+    c.call_plan.ensures.write_fault out err)
+    none
 
 pub returns-clause-no_plan_begun : goal.returns-clause-no_plan_begun
 returns-clause-no_plan_begun g c = begun_none c.call_plan.ensures.answer
+
+pub returns-clause-accepted : goal.returns-clause-accepted
+returns-clause-accepted g c two = let none = two_refuses c.call_plan.ensures.answer two in cc

@@ -67,9 +67,9 @@ returns-clause-refused_text g c = three_says c.call.ensures.answer
 pub returns-clause-complete : goal.returns-clause-complete
 returns-clause-complete g c none out err =
     complete c.call.ensures.answer
-      (no_write_fault c.call.result.status (g.O.Sink.faults c.args.out.now) (g.O.Sink.faults c.call.new.out) (g.E.Sink.faults c.args.err.now) (g.E.Sink.faults c.call.new.err)
-        c.call.ensures.write_fault out err)
-      none
+    (no_write_fault c.call.result.status (g.O.Sink.faults c.args.out.now) (g.O.Sink.faults c.call.new.out) (g.E.Sink.faults c.args.err.now) (g.E.Sink.faults c.call.new.err)
+    c.call.ensures.write_fault out err)
+    none
 
 pub returns-clause-no_plan_begun : goal.returns-clause-no_plan_begun
 returns-clause-no_plan_begun g c = begun_none c.call.ensures.answer

@@ -13,7 +13,7 @@ returns-in_err-problem_bytes g c =
     let after = g.F.Folder.log c.load_file-2.new.files in
     let first = c.in_ok-domain_bytes.ensures.answer in
     let second = load_kept held (g.F.Folder.held c.load_file.new.files) problem middle after (Err c.in_err-problem_bytes.field-0.0)
-        c.in_ok-domain_bytes.ensures.kept c.in_err-problem_bytes.ensures.answer in
+    c.in_ok-domain_bytes.ensures.kept c.in_err-problem_bytes.ensures.answer in
     rw (exit.1, exit.2) (second_ends held c.args.domain.now problem c.in_ok-domain_bytes.domain_bytes before middle after c.in_err-problem_bytes.field-0.0 first.0 first.1 second)
 
 pub returns : goal.returns
@@ -28,8 +28,8 @@ returns g c =
     let after = g.F.Folder.log c.load_file-2.new.files in
     let first = c.in_ok-domain_bytes.ensures.answer in
     let second = load_kept held (g.F.Folder.held c.load_file.new.files) problem middle after (Ok problem_bytes)
-        c.in_ok-domain_bytes.ensures.kept c.in_ok-problem_bytes.ensures.answer in
+    c.in_ok-domain_bytes.ensures.kept c.in_ok-problem_bytes.ensures.answer in
     task_ends held domain problem domain_bytes problem_bytes before after c.read_task.result
     (both_read held domain problem domain_bytes problem_bytes before middle after first.0 first.1 second.0 second.1)
     (reads_same domain problem domain_bytes problem_bytes c.as_slice.result.now c.as_slice-2.result.now c.read_task.result
-      c.as_slice.ensures c.as_slice-2.ensures c.read_task.ensures)
+    c.as_slice.ensures c.as_slice-2.ensures c.read_task.ensures)
