@@ -1,22 +1,17 @@
 -- What follows from how the search of a call ends.
-use Rattle.std.proofs.Common.{◌≡◌, ◌≢◌, ℕ, zero, suc, IsTrue, ◌<◌, ◌≤◌, ◌+◌, ◌-◌, ◌⊎◌, inl, inr, Bool, true, false, Option, Some, None, Contains, Result, Ok, Err, IfSome, List, [], ◌∷◌, ◌++◌, length, map, drop, take, codes, refl, sym, ◌∙◌, ap, subst, append-nil, arith, rules}
-use Rattle.std.proofs.lemmas.List.Prefix.{front_rest}
-use Rattle.std.proofs.lemmas.Bool.{false≢true}
+use Rattle.std.proofs.Common.{◌≡◌, ◌≢◌, ℕ, ◌<◌, inl, inr, Option, Some, None, Contains, IfSome, List, ◌++◌, length, codes, refl, sym, subst, arith}
 use Rattle.mf_io.specs.declared.folder.Loading.{Loading}
-use Rattle.mf_io.specs.declared.sink.PutFault.{PutFault}
-use Rattle.mf_io.specs.declared.sink.PutFault.TheVariants.{Failed, Memory}
-use Rattle.mf_io.specs.Sink.{Appends, AppendsFront}
+use Rattle.mf_io.specs.Sink.{Appends}
 use Rattle.mf_model.specs.declared.task.TypedTask.{TypedTask}
-use Rattle.mf_model.specs.Plain.{IsPlainTask}
 use Rattle.std.specs.Fmt.{decimal}
-use Rattle.mf_search.specs.declared.entry.Entry.{Entry}
 use Rattle.mf_search.specs.declared.status.Status.{Status}
 use Rattle.mf_search.specs.declared.status.Status.TheVariants as status
-use Rattle.mf_search.specs.World.{AllDifferent, world, takes}
+use Rattle.mf_search.specs.World.{AllDifferent, world}
 use Rattle.mf_search.proofs.OneStep.{taken_is}
 use Rattle.mf_search.proofs.OneWorker.{takes_are_greedy, only_history}
 use Rattle.mf_search.proofs.Sound.{legal_sound, apart_states}
 use Rattle.mf_search.proofs.Taking.{greedy_run_to_take}
+use Rattle.mf_plain.proofs.Lawful.{budget_reached}
 use Rattle.mf_plain.specs.declared.history.History.{History}
 use Rattle.mf_plain.specs.PlainSpace.{space_of}
 use Rattle.mf_plain.specs.Searches.{IsSearched}
@@ -25,12 +20,10 @@ use Rattle.mf_top.specs.declared.request.Request.{Request}
 use Rattle.mf_top.specs.declared.request.Request.TheVariants.{Plan}
 use Rattle.mf_top.specs.declared.outcome.Outcome.{Outcome}
 use Rattle.mf_top.specs.declared.outcome.Outcome.TheVariants.{WordsRefused, CannotRead, TooLong, NotBuilt, PlanFound, NoPlan, BudgetReached, OutOfMemory}
-use Rattle.mf_top.specs.Calls.{Asks, Stands, IsStatus, files_of, new_loads, last_failed, OnlyLastFailed, GrowsBy, SaysUnread, PrintsPlan, HasNoPlan, NotOfForm, IsRefusedInput, SaysRefused, IsAnswer, answer_status, IsHistoryOf, IsEmptyOr, SaysBudget, IsGreedySearch}
-use Rattle.mf_top.specs.Delivery.{WritesBoth, final_status}
-use Rattle.mf_top.specs.Loads.{Reads, IsTooLong, found, lost, greatest_length}
-use Rattle.mf_top.specs.Outcome.{AreRead, IsTaskOfLoads, Concludes, Ends, EndsLoading, EndsPlan, EndsRefused, EndsSearch, Runs, no_history}
+use Rattle.mf_top.specs.Calls.{Asks, Stands, PrintsPlan, HasNoPlan, IsAnswer, answer_status, IsHistoryOf, IsEmptyOr, SaysBudget, IsGreedySearch}
+use Rattle.mf_top.specs.Loads.{Reads}
+use Rattle.mf_top.specs.Outcome.{IsTaskOfLoads, Ends, EndsLoading, EndsPlan, EndsSearch, Runs}
 use Rattle.mf_model.specs.Built.{IsTaskOfFiles}
-use Rattle.mf_top.specs.Loads.{IsBuiltDomain}
 use Rattle.mf_top.specs.Texts.{status_of, out_text, err_text}
 
 -- the bytes that the folder tells
@@ -172,6 +165,11 @@ budget_of_outcome held d p b loads history (BudgetReached n) ob oa eb ea domain 
 budget_of_outcome held d p b loads history (BudgetReached n) ob oa eb ea domain problem (inr by_answer) concluded d_told p_told = record {
   task = by_answer.task;
   of_files = task_told held d p loads by_answer.task domain problem by_answer.loaded d_told p_told;
+  more_opened =
+      let searched : IsSearched by_answer.task b (record { history = history; status = status.Budget }) = by_answer.ends.0 in
+      let more : b < length history.rows = budget_reached by_answer.task b (record { history = history; status = status.Budget }) searched refl in
+      subst (λ ts. length ts < length history.rows) (taken_is (space_of by_answer.task) history.entries)
+      (subst (λ m. m < length history.rows) (sym searched.answers.2) more);
   printed =
       subst (λ ts. Appends (codes "budget reached after " ++ decimal (length ts) ++ codes " expansions\n") ob oa) (taken_is (space_of by_answer.task) history.entries)
       (subst (λ m. Appends (codes "budget reached after " ++ decimal m ++ codes " expansions\n") ob oa) by_answer.ends.1 concluded.out);

@@ -1,27 +1,22 @@
 -- That `no plan` is begun on out only where the outcome is that there is none.
-use Rattle.std.proofs.Common.{◌≡◌, ◌≢◌, ℕ, zero, suc, IsTrue, ◌<◌, ◌≤◌, ◌+◌, ◌-◌, ◌⊎◌, inl, inr, Bool, true, false, Option, Some, None, Result, Ok, Err, IfSome, List, [], ◌∷◌, ◌++◌, length, map, drop, take, codes, refl, sym, ◌∙◌, ap, subst, append-nil, arith, rules}
+use Rattle.std.proofs.Common.{◌≡◌, ℕ, zero, suc, ◌<◌, inl, inr, Option, Some, None, Result, Ok, Err, List, [], ◌∷◌, ◌++◌, drop, take, codes, refl, sym, ◌∙◌, ap, subst, arith}
 use Rattle.std.proofs.lemmas.List.Prefix.{front_rest}
-use Rattle.std.proofs.lemmas.Bool.{false≢true}
 use Rattle.mf_io.specs.declared.folder.Loading.{Loading}
 use Rattle.mf_io.specs.declared.sink.PutFault.{PutFault}
-use Rattle.mf_io.specs.declared.sink.PutFault.TheVariants.{Failed, Memory}
 use Rattle.mf_io.specs.Sink.{Appends, AppendsFront}
 use Rattle.mf_model.specs.declared.task.TypedTask.{TypedTask}
 use Rattle.std.specs.Option.{option_map}
 use Rattle.mf_io.proofs.SinkLemmas.{AppendsFront-all}
-use Rattle.mf_model.specs.Plain.{IsPlainTask}
 use Rattle.mf_model.specs.declared.state.Instance.{Instance}
-use Rattle.std.specs.Fmt.{decimal}
 use Rattle.mf_plain.specs.declared.history.History.{History}
 use Rattle.mf_top.proofs.AnswerLemmas.{no_plan_asked}
 use Rattle.mf_top.specs.declared.request.Request.{Request}
 use Rattle.mf_top.specs.declared.request.Request.TheVariants.{Plan}
 use Rattle.mf_top.specs.declared.outcome.Outcome.{Outcome}
 use Rattle.mf_top.specs.declared.outcome.Outcome.TheVariants.{WordsRefused, CannotRead, TooLong, NotBuilt, PlanFound, NoPlan, BudgetReached, OutOfMemory}
-use Rattle.mf_top.specs.Calls.{Asks, Stands, IsStatus, files_of, new_loads, last_failed, OnlyLastFailed, GrowsBy, SaysUnread, PrintsPlan, HasNoPlan, NotOfForm, IsRefusedInput, SaysRefused, BeginsNoPlan}
-use Rattle.mf_top.specs.Delivery.{WritesBoth, final_status}
-use Rattle.mf_top.specs.Loads.{Reads, IsTooLong, found, lost, greatest_length}
-use Rattle.mf_top.specs.Outcome.{AreRead, IsTaskOfLoads, Concludes, Ends, EndsLoading, EndsPlan, EndsRefused, EndsSearch, Runs, no_history}
+use Rattle.mf_top.specs.Calls.{Asks, HasNoPlan, BeginsNoPlan}
+use Rattle.mf_top.specs.Delivery.{WritesBoth}
+use Rattle.mf_top.specs.Outcome.{Ends, Runs}
 use Rattle.mf_top.specs.Texts.{status_of, out_text, err_text, plan_text}
 
 -- what stands on out is a front part of the text for it

@@ -1,13 +1,8 @@
 -- When the input is refused, and when the call is complete.
-use Rattle.std.proofs.Common.{◌≡◌, ◌≢◌, ℕ, zero, suc, IsTrue, ◌<◌, ◌≤◌, ◌+◌, ◌-◌, ◌⊎◌, inl, inr, Bool, true, false, Option, Some, None, Result, Ok, Err, IfSome, List, [], ◌∷◌, ◌++◌, length, map, drop, take, codes, refl, sym, ◌∙◌, ap, subst, append-nil, arith, rules}
-use Rattle.std.proofs.lemmas.List.Prefix.{front_rest}
-use Rattle.std.proofs.lemmas.Bool.{false≢true}
+use Rattle.std.proofs.Common.{◌≡◌, ◌≢◌, ℕ, IsTrue, ◌<◌, ◌≤◌, ◌⊎◌, inl, inr, Option, Some, None, IfSome, List, ◌++◌, length, codes, refl, sym, subst, arith}
 use Rattle.mf_io.specs.declared.folder.Loading.{Loading}
-use Rattle.mf_io.specs.declared.sink.PutFault.{PutFault}
-use Rattle.mf_io.specs.declared.sink.PutFault.TheVariants.{Failed, Memory}
 use Rattle.mf_io.specs.Sink.{Appends, Rose}
 use Rattle.mf_model.specs.declared.task.TypedTask.{TypedTask}
-use Rattle.mf_model.specs.Plain.{IsPlainTask}
 use Rattle.mf_plain.specs.declared.history.History.{History}
 use Rattle.mf_top.proofs.AnswerLemmas.{told_is, task_told, memory_stands}
 use Rattle.mf_top.proofs.CallLemmas.{concluded, stands, is_status, two_refuses, four_failed, loading_failed, new_loads_are}
@@ -15,14 +10,13 @@ use Rattle.mf_top.specs.declared.request.Request.{Request}
 use Rattle.mf_top.specs.declared.request.Request.TheVariants.{Plan}
 use Rattle.mf_top.specs.declared.outcome.Outcome.{Outcome}
 use Rattle.mf_top.specs.declared.outcome.Outcome.TheVariants.{WordsRefused, CannotRead, TooLong, NotBuilt, PlanFound, NoPlan, BudgetReached, OutOfMemory}
-use Rattle.mf_top.specs.Calls.{Asks, Stands, IsStatus, files_of, new_loads, last_failed, OnlyLastFailed, GrowsBy, SaysUnread, PrintsPlan, HasNoPlan, NotOfForm, IsRefusedInput, SaysRefused, IsComplete}
-use Rattle.mf_top.specs.Delivery.{WritesBoth, final_status}
-use Rattle.mf_top.specs.Loads.{Reads, IsTooLong, found, lost, greatest_length}
-use Rattle.mf_top.specs.Outcome.{AreRead, IsTaskOfLoads, Concludes, Ends, EndsLoading, EndsPlan, EndsRefused, IsRefused, EndsSearch, Runs, no_history}
+use Rattle.mf_top.specs.Calls.{Asks, Stands, IsStatus, new_loads, last_failed, IsRefusedInput, SaysRefused, IsComplete}
+use Rattle.mf_top.specs.Loads.{Reads, IsTooLong, greatest_length}
+use Rattle.mf_top.specs.Outcome.{IsTaskOfLoads, Ends, EndsLoading, IsRefused, EndsSearch, Runs}
 use Rattle.mf_model.specs.Built.{IsTaskOfFiles}
 use Rattle.mf_top.specs.Loads.{IsBuiltDomain}
 use Rattle.mf_top.proofs.BuiltLemmas.{task_is_built}
-use Rattle.mf_top.specs.Texts.{status_of, out_text, err_text}
+use Rattle.mf_top.specs.Texts.{status_of, err_text}
 
 -- the refusal of the input
 

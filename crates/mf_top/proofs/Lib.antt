@@ -4,7 +4,6 @@ pub mod BuiltLemmas
 pub mod CallLemmas
 pub mod InputLemmas
 pub mod LoadLemmas
-pub mod PlanLaws
 pub mod RunLemmas
 pub mod SearchLemmas
 pub mod WordLemmas

@@ -1,5 +1,5 @@
 -- How a call runs where no file is loaded.
-use Rattle.std.proofs.Common.{◌≡◌, ℕ, inl, Option, Some, None, List, [], ◌++◌, refl, sym, subst, append-nil}
+use Rattle.std.proofs.Common.{◌≡◌, ℕ, inl, Option, Some, None, List, [], refl, sym, subst, append-nil}
 use Rattle.mf_io.specs.declared.folder.Loading.{Loading}
 use Rattle.mf_plain.specs.declared.history.History.{History}
 use Rattle.mf_top.specs.declared.request.Request.{Request}

@@ -1,15 +1,11 @@
 -- What the answers of a search of a plain task are.
 use Rattle.std.proofs.Common.{◌≡◌, ℕ, ◌⊎◌, Bool, true, false, eqb, inl, inr, subst, List, [], ◌∷◌}
 use Rattle.mf_model.specs.declared.task.TypedTask.{TypedTask}
-use Rattle.mf_model.specs.declared.state.Instance.{Instance}
 use Rattle.mf_model.specs.declared.state.PlainState.{PlainState}
-use Rattle.mf_model.specs.Plain.{IsPlainTask}
-use Rattle.mf_model.specs.Plans.{IsPlan}
 use Rattle.mf_search.specs.declared.entry.Entry.{Entry}
 use Rattle.mf_search.specs.declared.entry.Entry.TheVariants.{Take, Done, Wide}
-use Rattle.mf_search.specs.declared.status.Status.{Status}
 use Rattle.mf_search.specs.declared.status.Status.TheVariants as status
-use Rattle.mf_search.specs.World.{World, Going, AtGoal, AtWide, LegalFrom, after, begin, at, next, took}
+use Rattle.mf_search.specs.World.{World, AtWide, LegalFrom, after, begin, at, next, took}
 use Rattle.mf_search.specs.Answers.{Answers}
 use Rattle.mf_plain.specs.declared.history.Searched.{Searched}
 use Rattle.mf_plain.specs.PlainSpace.{space_of}

@@ -1,5 +1,5 @@
 -- What can be relied on after a call: the words in which its clauses are said.
-use Rattle.std.specs.Prelude.{◌≡◌, ℕ, ◌<◌, ◌≤◌, ◌⊎◌, IsTrue, Bool, true, false, Option, Some, None, List, [], ◌∷◌, ◌++◌, length, map, drop, take, codes, Contains}
+use Rattle.std.specs.Prelude.{◌≡◌, ℕ, ◌<◌, ◌≤◌, ◌⊎◌, IsTrue, Bool, false, Option, Some, None, List, [], ◌∷◌, ◌++◌, length, map, drop, take, codes, Contains}
 use Rattle.std.specs.Fmt.{decimal}
 use Rattle.mf_io.specs.declared.folder.Loading.{Loading}
 use Rattle.mf_io.specs.Sink.{Appends}
@@ -145,10 +145,12 @@ pub record IsHistoryOf (domain problem : List ℕ) (budget : ℕ) (history : His
 abbrev pub IsEmptyOr : History → Type 0 → Type 0
 IsEmptyOr history P = (history ≡ no_history) ⊎ P
 
--- the history of a search that took as many states as its budget, and what is written to out of it
+-- the history of a search that took as many states as its budget, and what is written to out of it: the search opened
+-- more states than it took, so the budget is below the number of reachable states
 pub record SaysBudget (domain problem : List ℕ) (history : History) (before after : Option (List ℕ)) : Type 0 where
   pub task : TypedTask
   pub of_files : IsTaskOfFiles domain problem task
+  pub more_opened : length (takes history.entries) < length history.rows
   pub printed : Appends (codes "budget reached after " ++ decimal (length (takes history.entries)) ++ codes " expansions\n") before after
 
 -- One-thread greedy best-first search with open ties (Heusner, Keller and Helmert, SoCS 2017), of a task of the files:

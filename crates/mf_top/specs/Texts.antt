@@ -1,5 +1,5 @@
 -- The status and the texts of each outcome.
-use Rattle.std.specs.Prelude.{ℕ, List, [], ◌∷◌, ◌++◌, length, codes, slice_get}
+use Rattle.std.specs.Prelude.{ℕ, List, [], ◌++◌, length, codes, slice_get}
 use Rattle.std.specs.List.{flat_map}
 use Rattle.std.specs.Option.{option_map_or}
 use Rattle.std.specs.Fmt.{decimal}

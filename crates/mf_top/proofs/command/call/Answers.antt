@@ -1,4 +1,4 @@
-use Rattle.std.proofs.Common.{◌≡◌, map, string_bytes, sym}
+use Rattle.std.proofs.Common.{map, string_bytes, sym}
 use Rattle.mf_top.specs.Words.{request_of}
 use Rattle.mf_top.proofs.RunLemmas.{runs_refused, runs_unread}
 use Rattle.mf_top.proofs.command.call.Goals as goal
