@@ -175,6 +175,25 @@ fn a_file_that_is_not_built_is_refused(rt: HostRuntime) -> Result<(), Fail> {
 }
 
 #[test]
+fn a_problem_without_a_goal_is_refused(rt: HostRuntime) -> Result<(), Fail> {
+    let alloc = rt.alloc();
+    let problem = text(alloc, "(define (problem rooms-1) (:domain rooms))")?;
+    let (ended, _out, err) = called(alloc, ROOMS, problem, None)?;
+    assert_eq!(rt; ended.status, 3);
+    assert_eq!(rt; err.as_slice(), b"rooms-1.pddl: not built\n".as_slice());
+    Ok(())
+}
+
+#[test]
+fn a_goal_with_an_unknown_name_is_refused(rt: HostRuntime) -> Result<(), Fail> {
+    let alloc = rt.alloc();
+    let (ended, _out, err) = called(alloc, ROOMS, rooms(alloc, "(at ball2 roomb)")?, None)?;
+    assert_eq!(rt; ended.status, 3);
+    assert_eq!(rt; err.as_slice(), b"rooms-1.pddl: not built\n".as_slice());
+    Ok(())
+}
+
+#[test]
 fn a_problem_that_cannot_be_read(rt: HostRuntime) -> Result<(), Fail> {
     let alloc = rt.alloc();
     let words = words(alloc, None)?;
