@@ -1,0 +1,3 @@
+pub mod ExpressionLaw
+pub mod Kept
+pub mod Numbers
