@@ -1,7 +1,8 @@
 -- Exact fractions of any size: what each operation gives, with no limit on the numbers.
 use Rattle.std.specs.Prelude.{◌≡◌, ℕ, zero, suc, ◌*◌, ◌/◌, ◌<◌, ◌^◌, Bool, ◌&&◌, nat_le, ℤ, pos, negsuc, ◌+ℤ◌, ◌-ℤ◌, ◌*ℤ◌, neg_ℤ, unsigned_abs, int_lt, int_le, int_div, Option, Some, None}
 use Rattle.std.specs.Int.{int_signum}
-use Rattle.std.specs.Ordering.{int_eq}
+use Rattle.std.specs.declared.cmp.Ordering.{Ordering}
+use Rattle.std.specs.Ordering.{int_cmp, int_eq}
 use Rattle.mf_fraction.specs.Gcd.{gcd}
 
 -- the fraction num / den
@@ -44,6 +45,9 @@ unfoldable pub negative_of : Number → Number
 negative_of a = record { num = neg_ℤ a.num; den = a.den }
 
 -- the order of the exact values, by cross products
+unfoldable pub order_of : Number → Number → Ordering
+order_of a b = int_cmp (a.num *ℤ pos b.den) (b.num *ℤ pos a.den)
+
 unfoldable pub is_below : Number → Number → Bool
 is_below a b = int_lt (a.num *ℤ pos b.den) (b.num *ℤ pos a.den)
 

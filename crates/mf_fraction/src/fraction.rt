@@ -1,17 +1,22 @@
+ghost use Rattle.mf_fraction.specs.Checked.{checked, checked_quotient};
+ghost use Rattle.mf_fraction.specs.Exact.{whole, quotient_of};
 ghost use Rattle.std.proofs.Common.{rules};
 ghost use Rattle.std.specs.Cmp.Rules.{comparing, hashing};
 ghost use Rattle.std.specs.Hash as fed;
 ghost use Rattle.std.specs.Ordering.{on, eq_of_both, int_eq};
-ghost use Rattle.std.specs.Prelude.{◌++◌, nat_eq};
+ghost use Rattle.std.specs.Prelude.{◌≡◌, ◌++◌, nat_eq};
 
+use crate::arithmetic::turned;
+use crate::lowest::{lowest, whole_fraction};
+use crate::{DivFault, Wide};
 use std::hash::{Hash, Hasher};
 use std::marker::Model;
 
 /// A fraction in lowest terms, with a denominator of at least 1 and both parts at most 2^62 in size.
 #[derive(Clone, Copy, Debug)]
 pub struct Frac {
-    numerator: i64,
-    denominator: u64,
+    pub(crate) numerator: i64,
+    pub(crate) denominator: u64,
 }
 
 impl Model for Frac {
@@ -25,6 +30,30 @@ impl Model for Frac {
     ghost invariant = { λ a. Kept a.numerator a.denominator };
 
     ghost inverse = { λ f. record { numerator = f.num; denominator = f.den } };
+}
+
+impl Frac {
+    /// The whole number `n`, or `Wide` exactly where it is above 2^62 in size.
+    pub fn whole(n: i64) -> Result<Frac, Wide>
+        ensures { result ≡ checked (whole n) }
+    {
+        whole_fraction(i128::from(n))
+    }
+
+    /// The fraction `n / d` in lowest terms, with the sign in the numerator. `ZeroDivisor` comes
+    /// exactly where `d` is 0, and else `Wide` exactly where the fraction does not fit.
+    pub fn new(n: i64, d: i64) -> Result<Frac, DivFault>
+        ensures { result ≡ checked_quotient (quotient_of (whole n) (whole d)) }
+    {
+        if d == 0 {
+            return Err(DivFault::ZeroDivisor);
+        }
+        let top = turned(d < 0, i128::from(n));
+        match lowest(top, u128::from(d.unsigned_abs())) {
+            Ok(quotient) => Ok(quotient),
+            Err(Wide) => Err(DivFault::Wide),
+        }
+    }
 }
 
 impl PartialEq for Frac {

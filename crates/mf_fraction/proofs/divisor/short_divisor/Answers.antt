@@ -1,0 +1,9 @@
+use Rattle.std.proofs.Common.{arith}
+use Rattle.mf_fraction.proofs.Divisors.{gcd-more, gcd-done}
+use Rattle.mf_fraction.proofs.divisor.short_divisor.Goals as goal
+
+pub loop-y-preserved : goal.loop-y-preserved
+loop-y-preserved c = gcd-more _ _ _ (omega arith) c.loop-y.invariant
+
+pub returns : goal.returns
+returns c = gcd-done _ _ _ (omega arith) c.loop-y.invariant
