@@ -8,9 +8,11 @@ mod divisor;
 mod faults;
 mod fraction;
 mod lowest;
+mod negative;
 mod order;
 
 pub use arithmetic::{add, div, mul, sub};
 pub use faults::{DivFault, Memory, NumberFault, Wide};
 pub use fraction::Frac;
+pub use negative::neg;
 pub use order::{cmp, sign};
