@@ -44,6 +44,11 @@ impl<T> List<T> {
         items
     }
 
+    /// The allocator that the items are kept with.
+    pub fn allocator(&self) -> Global {
+        *self.items.allocator()
+    }
+
     pub fn as_slice(&self) -> &[T]
         ensures { result.now ≡ self.now }
     {
