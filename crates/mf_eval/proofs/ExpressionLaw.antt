@@ -63,23 +63,23 @@ module _ (look : Look) (b : List ℕ) where
   unfolding kepts sizeds
   front_kept op s [] = end_where s.wide s.value
   front_kept op s (p ∷ ps) =
-    let t = sized_of look p.0 b in
-    ap (λ (r : Result (Option Number) Wide). answered s.wide s.value >>= λ a. r >>= λ c. kept (operation_of op a c) >>= λ front. kept_front op front (kepts ps)) (p.1 b).kept_is
-    ∙ turn_where op (λ a. kept_front op a (kepts ps)) s.wide t.wide s.value t.value
-    ∙ front_kept op (sized_both (operation_of op) s t) ps
+      let t = sized_of look p.0 b in
+      ap (λ (r : Result (Option Number) Wide). answered s.wide s.value >>= λ a. r >>= λ c. kept (operation_of op a c) >>= λ front. kept_front op front (kepts ps)) (p.1 b).kept_is
+      ∙ turn_where op (λ a. kept_front op a (kepts ps)) s.wide t.wide s.value t.value
+      ∙ front_kept op (sized_both (operation_of op) s t) ps
 
   front_value : (op : Operation) (s : Sized) (v : Option Number) → s.value ≡ v → (ps : List (Piece look)) → (sized_front (operation_of op) s (sizeds ps)).value ≡ combined (operation_of op) v (values ps)
   unfolding sizeds values
   front_value op s v e [] = e
   front_value op s v e (p ∷ ps) =
-    front_value op (sized_both (operation_of op) s (sized_of look p.0 b)) (operation_of op v (value_of look p.0 b))
-    (ap (λ (x : Option Number). operation_of op x (sized_of look p.0 b).value) e ∙ ap (λ (x : Option Number). operation_of op v x) (p.1 b).value_is) ps
+      front_value op (sized_both (operation_of op) s (sized_of look p.0 b)) (operation_of op v (value_of look p.0 b))
+      (ap (λ (x : Option Number). operation_of op x (sized_of look p.0 b).value) e ∙ ap (λ (x : Option Number). operation_of op v x) (p.1 b).value_is) ps
 
   all_kept : (op : Operation) (ps : List (Piece look)) → kept_all op (kepts ps) ≡ answered (sized_all (operation_of op) (empty_of op) (sizeds ps)).wide (sized_all (operation_of op) (empty_of op) (sizeds ps)).value
   unfolding kepts sizeds
   all_kept op [] = refl
   all_kept op (p ∷ ps) =
-    ap (λ (r : Result (Option Number) Wide). r >>= λ a. kept_front op a (kepts ps)) (p.1 b).kept_is ∙ front_kept op (sized_of look p.0 b) ps
+      ap (λ (r : Result (Option Number) Wide). r >>= λ a. kept_front op a (kepts ps)) (p.1 b).kept_is ∙ front_kept op (sized_of look p.0 b) ps
 
   sum_value : (ps : List (Piece look)) → (sized_all (operation_of Sum) (empty_of Sum) (sizeds ps)).value ≡ sum_of_all (values ps)
   unfolding sizeds values

@@ -1,3 +1,5 @@
 pub mod Answers
 pub mod Checked
+pub mod Judged
+pub mod Scope
 pub mod Width

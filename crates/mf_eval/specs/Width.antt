@@ -1,9 +1,13 @@
 -- Width: where an exact value leaves the range of stored fractions.
 use Rattle.std.specs.Prelude.{ℕ, pos, Bool, false, ◌||◌, not, List, [], ◌∷◌, map, Option, Some, None}
+use Rattle.std.specs.List.{list_any}
 use Rattle.mf_fraction.specs.Exact.{Number, whole, fits}
+use Rattle.mf_model.specs.declared.task.Cond.{Cond, fold-Cond}
+use Rattle.mf_model.specs.declared.task.Cond.TheOpen.{Cond-F}
 use Rattle.mf_model.specs.declared.task.Expr.{Expr, fold-Expr}
 use Rattle.mf_model.specs.declared.task.Expr.TheOpen.{Expr-F}
 use Rattle.mf_model.specs.Meaning.{plus, minus, times, over, negated}
+use Rattle.mf_model.specs.Objects.{bindings}
 use Rattle.mf_model.specs.Views.{Look, objects_of}
 
 -- an exact value, with the mark whether some subexpression, itself among them, has a defined value that does not fit
@@ -50,3 +54,18 @@ sized_of look = fold-Expr (List ℕ → Sized) (sized_step look)
 -- some subexpression, fronts of sums and products among them, has a defined exact value that does not fit
 abbrev pub is_wide : Look → Expr → List ℕ → Bool
 is_wide look expression b = (sized_of look expression b).wide
+
+abbrev pub condition_step : List (List ℕ) → Look → Cond-F (List ℕ → Bool) → List ℕ → Bool
+condition_step objects look (Cond-F.Atom predicate terms) b = false
+condition_step objects look (Cond-F.Same left right) b = false
+condition_step objects look (Cond-F.Compare relation left right) b = is_wide look left b || is_wide look right b
+condition_step objects look (Cond-F.Not part) b = part b
+condition_step objects look (Cond-F.And parts) b = list_any (λ part. part b) parts
+condition_step objects look (Cond-F.Or parts) b = list_any (λ part. part b) parts
+condition_step objects look (Cond-F.Imply left right) b = left b || right b
+condition_step objects look (Cond-F.All variables part) b = list_any part (bindings objects variables b)
+condition_step objects look (Cond-F.Any variables part) b = list_any part (bindings objects variables b)
+
+-- some subexpression of a comparison is too wide, for some binding of the quantifiers round it
+abbrev pub is_condition_wide : List (List ℕ) → Look → Cond → List ℕ → Bool
+is_condition_wide objects look = fold-Cond (List ℕ → Bool) (condition_step objects look)
