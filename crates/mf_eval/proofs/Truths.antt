@@ -98,7 +98,7 @@ module _ {X : Type 0} (c : Connective) (r : X → Result Truth Wide) (w : X → 
   pub judged_front-is : (t : Truth) (xs : List X) → judged_front c t (map r xs) ≡ answered (list_any w xs) (connected c t (joined c (map v xs)))
   judged_front-is t [] = ap Ok (sym (connected-neutral c t))
   judged_front-is t (x ∷ xs) =
-    ap (λ (q : Result Truth Wide). q >>= λ s. judged_front c (connected c t s) (map r xs)) (is x) ∙ turn t (v x) (w x) xs (λ s. judged_front-is s xs)
+      ap (λ (q : Result Truth Wide). q >>= λ s. judged_front c (connected c t s) (map r xs)) (is x) ∙ turn t (v x) (w x) xs (λ s. judged_front-is s xs)
 
   pub judged_all-is : (xs : List X) → judged_all c (map r xs) ≡ answered (list_any w xs) (joined c (map v xs))
   judged_all-is xs = judged_front-is (neutral_of c) xs ∙ ap (λ (x : Truth). answered (list_any w xs) x) (neutral-connected c (joined c (map v xs)))

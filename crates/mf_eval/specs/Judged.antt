@@ -1,5 +1,5 @@
 -- The meaning of conditions over stored fractions alone: every part is looked at, and the first that is too wide ends it.
-use Rattle.std.specs.Prelude.{ℕ, nat_eq, List, [], ◌∷◌, ◌++◌, map, length, Result, Ok}
+use Rattle.std.specs.Prelude.{ℕ, Bool, nat_eq, List, [], ◌∷◌, ◌++◌, map, length, Result, Ok}
 use Rattle.std.specs.List.{flat_map}
 use Rattle.mf_fraction.specs.declared.faults.Wide.{Wide}
 use Rattle.mf_model.specs.declared.task.Cond.{Cond, fold-Cond}
@@ -10,7 +10,7 @@ use Rattle.mf_model.specs.declared.task.Relation.{Relation}
 use Rattle.mf_model.specs.declared.task.TypedTask.{TypedTask}
 use Rattle.mf_model.specs.declared.truth.Truth.{Truth}
 use Rattle.mf_model.specs.declared.truth.Truth.TheVariants.{Yes, No}
-use Rattle.mf_model.specs.Meaning.{and_of, or_of, not_of, truth_of, compared}
+use Rattle.mf_model.specs.Meaning.{is_yes, and_of, or_of, not_of, truth_of, compared}
 use Rattle.mf_model.specs.Objects.{ancestors, having, parents_of}
 use Rattle.mf_model.specs.Views.{Look, object_of, objects_of}
 use Rattle.mf_eval.specs.declared.truth.Connective.{Connective}
@@ -67,3 +67,7 @@ judged objects look = fold-Cond (List ℕ → Result Truth Wide) (judged_step ob
 
 abbrev pub judged_parts : List (List ℕ) → Look → List Cond → List ℕ → List (Result Truth Wide)
 judged_parts objects look parts b = map (λ part. part b) (map (judged objects look) parts)
+
+-- whether a condition holds
+abbrev pub met : List (List ℕ) → Look → Cond → List ℕ → Result Bool Wide
+met objects look condition b = judged objects look condition b >>= λ truth. Ok (is_yes truth)

@@ -1,12 +1,14 @@
 -- Width: where an exact value leaves the range of stored fractions.
-use Rattle.std.specs.Prelude.{ℕ, pos, Bool, false, ◌||◌, not, List, [], ◌∷◌, map, Option, Some, None}
+use Rattle.std.specs.Prelude.{ℕ, pos, Bool, false, ◌||◌, ◌&&◌, not, List, [], ◌∷◌, map, Option, Some, None}
 use Rattle.std.specs.List.{list_any}
 use Rattle.mf_fraction.specs.Exact.{Number, whole, fits}
 use Rattle.mf_model.specs.declared.task.Cond.{Cond, fold-Cond}
 use Rattle.mf_model.specs.declared.task.Cond.TheOpen.{Cond-F}
+use Rattle.mf_model.specs.declared.task.Effect.{Effect, fold-Effect}
+use Rattle.mf_model.specs.declared.task.Effect.TheOpen.{Effect-F}
 use Rattle.mf_model.specs.declared.task.Expr.{Expr, fold-Expr}
 use Rattle.mf_model.specs.declared.task.Expr.TheOpen.{Expr-F}
-use Rattle.mf_model.specs.Meaning.{plus, minus, times, over, negated}
+use Rattle.mf_model.specs.Meaning.{holds_in, plus, minus, times, over, negated}
 use Rattle.mf_model.specs.Objects.{bindings}
 use Rattle.mf_model.specs.Views.{Look, objects_of}
 
@@ -69,3 +71,17 @@ condition_step objects look (Cond-F.Any variables part) b = list_any part (bindi
 -- some subexpression of a comparison is too wide, for some binding of the quantifiers round it
 abbrev pub is_condition_wide : List (List ℕ) → Look → Cond → List ℕ → Bool
 is_condition_wide objects look = fold-Cond (List ℕ → Bool) (condition_step objects look)
+
+abbrev pub effect_step : List (List ℕ) → Look → Effect-F (List ℕ → Bool) → List ℕ → Bool
+effect_step objects look (Effect-F.Add predicate terms) b = false
+effect_step objects look (Effect-F.Delete predicate terms) b = false
+effect_step objects look (Effect-F.Change op function terms value) b = is_wide look value b
+effect_step objects look (Effect-F.Group parts) b = list_any (λ part. part b) parts
+effect_step objects look (Effect-F.Each variables part) b = list_any part (bindings objects variables b)
+effect_step objects look (Effect-F.When condition part) b =
+    is_condition_wide objects look condition b || (holds_in objects look condition b && part b)
+
+-- an effect condition is too wide, or a subexpression of a right side that fires
+-- (no `when` stands inside another, so every effect condition is looked at)
+abbrev pub is_effect_wide : List (List ℕ) → Look → Effect → List ℕ → Bool
+is_effect_wide objects look = fold-Effect (List ℕ → Bool) (effect_step objects look)

@@ -1,5 +1,5 @@
 ghost use Rattle.mf_eval.specs.Answers.{answered};
-ghost use Rattle.mf_eval.specs.Judged.{judged, judged_all, judged_parts, judged_quantifier, judged_with};
+ghost use Rattle.mf_eval.specs.Judged.{judged, judged_all, judged_parts, judged_quantifier, judged_with, met};
 ghost use Rattle.mf_eval.specs.Scope.{scope_of, greatest};
 ghost use Rattle.mf_eval.specs.Width.{is_condition_wide};
 ghost use Rattle.mf_model.specs.Meaning.{truth_in};
@@ -12,7 +12,7 @@ use crate::binding::places;
 use crate::kinds::has_some_type;
 use crate::leaf::{judge_atom, judge_comparison, judge_same};
 use crate::scene::Scene;
-use crate::truth::{Connective, connect, negation, neutral};
+use crate::truth::{Connective, connect, is_yes, negation, neutral};
 use mf_fraction::Wide;
 use mf_model::{Cond, PlainState, Truth, TypedTask, Types};
 use smallvec::SmallVec;
@@ -35,6 +35,21 @@ pub fn holds(
 {
     let mut binding = places(task.objects.allocator(), binding);
     judge(&Scene { task, state }, condition, &mut binding)
+}
+
+// Whether the condition holds.
+pub(crate) fn is_met(
+    scene: &Scene<'_>,
+    condition: &Cond,
+    binding: &mut SmallVec<u16, 64>,
+) -> Result<bool, Wide>
+    requires objects { length scene.now.task.now.objects ≤ 65535 }
+    requires room { HasRoomFor binding.old (scope_of condition.now) }
+    requires few { scope_of condition.now ≤ 64 }
+    ensures value { result ≡ met (kinds_of scene.now.task.now) (look_of scene.now.state.now) condition.now binding.old.items }
+    ensures same { binding.new ≡ binding.old }
+{
+    Ok(is_yes(judge(scene, condition, binding)?))
 }
 
 #[cycle(judge)]

@@ -1,5 +1,5 @@
 ghost use Rattle.mf_eval.specs.Judged.{connected, neutral_of};
-ghost use Rattle.mf_model.specs.Meaning.{not_of, truth_of};
+ghost use Rattle.mf_model.specs.Meaning.{is_yes, not_of, truth_of};
 ghost use Rattle.std.specs.Prelude.{◌≡◌};
 
 use mf_model::Truth;
@@ -16,6 +16,16 @@ pub(crate) fn truth(holds: bool) -> Truth
     ensures { result ≡ truth_of holds }
 {
     if holds { Truth::Yes } else { Truth::No }
+}
+
+pub(crate) fn is_yes(truth: Truth) -> bool
+    ensures { result ≡ is_yes truth }
+{
+    match truth {
+        Truth::Yes => true,
+        Truth::No => false,
+        Truth::Neither => false,
+    }
 }
 
 pub(crate) fn negation(truth: Truth) -> Truth

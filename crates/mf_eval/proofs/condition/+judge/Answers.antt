@@ -10,11 +10,16 @@ use Rattle.mf_eval.proofs.condition.+judge.Goals as goal
 pub judge_parts-judge-requires : goal.judge_parts-judge-requires
 judge_parts-judge-requires t c =
     let within = scope-within c.args.parts.now c.loop-part.part-index c.part-item.result c.loop-part-test.true in
-    let item = ap scope_of c.part-item.is in
-    (search (rules, the_lemmas),
-      (c.requires.objects,
-        (omega (arith, within, item, ap (λ b. length b.items) c.loop-part.invariant.1, ap (λ b. b.capacity) c.loop-part.invariant.1, c.requires.room),
-          omega (arith, within, item, c.requires.few))))
+    let item = ap scope_of c.part-item.is in (
+      search (rules, the_lemmas),
+      (
+        c.requires.objects,
+        (
+          omega (arith, within, item, ap (λ b. length b.items) c.loop-part.invariant.1, ap (λ b. b.capacity) c.loop-part.invariant.1, c.requires.room),
+          omega (arith, within, item, c.requires.few),
+        ),
+      ),
+    )
 
 pub judge-returns-in-Atom-clause-value : goal.judge-returns-in-Atom-clause-value
 judge-returns-in-Atom-clause-value t c =
