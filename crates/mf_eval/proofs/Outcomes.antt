@@ -65,17 +65,17 @@ module _ (state : PlainState) (changes : List Change) where
 
   pub changed-fails : list_all (is_defined (look_of state)) changes ≡ true → list_all (is_apart changes) changes ≡ true → (reason : ApplyFault) → Fails (kept_changes state.values changes) reason → Gives (changed_outcome state changes) (Err reason)
   changed-fails d a fault.Wide h =
-    let w = wide_from _ _ _ (sym (kept_changes-is state.values changes) ∙ h) in
-    rw (d, a, w) refl
+      let w = wide_from _ _ _ (sym (kept_changes-is state.values changes) ∙ h) in
+      rw (d, a, w) refl
   changed-fails d a (fault.NotApplicable reason) h = absurd h
   changed-fails d a fault.Memory h = tt
 
   pub changed-done : (atoms : List Atom) (values : List Valued) → list_all (is_defined (look_of state)) changes ≡ true → list_all (is_apart changes) changes ≡ true → kept_changes state.values changes ≡ Ok values → atoms ≡ fold with_atom (fold without_atom state.atoms (flat_map deleted changes)) (flat_map added changes) → changed_outcome state changes ≡ Ok (record { atoms = atoms; values = values })
   changed-done atoms values d a h e =
-    let k = sym (kept_changes-is state.values changes) ∙ h in
-    let n = narrow_from _ _ _ k in
-    let v = value_from _ _ _ k in
-    rw (d, a, n, v, ← e) refl
+      let k = sym (kept_changes-is state.values changes) ∙ h in
+      let n = narrow_from _ _ _ k in
+      let v = value_from _ _ _ k in
+      rw (d, a, n, v, ← e) refl
 
 module _ (task : TypedTask) (state : PlainState) (objects : List ℕ) (action : Action) (os : List ℕ) (same : os ≡ objects) where
   met_answer : met (kinds_of task) (look_of state) action.condition os ≡ answered (is_condition_wide (kinds_of task) (look_of state) action.condition objects) (holds_in (kinds_of task) (look_of state) action.condition objects)
@@ -83,31 +83,31 @@ module _ (task : TypedTask) (state : PlainState) (objects : List ℕ) (action : 
 
   fired_answer : (ps : List ℕ) (front : List Change) → ps ≡ os → front ≡ [] → fired (kinds_of task) (look_of state) action.effect ps front ≡ answered (is_effect_wide (kinds_of task) (look_of state) action.effect objects) (firing_of (kinds_of task) (look_of state) action.effect objects)
   fired_answer ps front p f =
-    ap (λ (b : List ℕ). fired (kinds_of task) (look_of state) action.effect b front) (p ∙ same)
-    ∙ ap (λ (l : List Change). fired (kinds_of task) (look_of state) action.effect objects l) f
-    ∙ fired-is (kinds_of task) (look_of state) action.effect objects []
+      ap (λ (b : List ℕ). fired (kinds_of task) (look_of state) action.effect b front) (p ∙ same)
+      ∙ ap (λ (l : List Change). fired (kinds_of task) (look_of state) action.effect objects l) f
+      ∙ fired-is (kinds_of task) (look_of state) action.effect objects []
 
   pub outcome-wide : (w : Wide) → Err w ≡ met (kinds_of task) (look_of state) action.condition os → outcome_for task state objects (Some action) ≡ Err fault.Wide
   outcome-wide w e =
-    let t = wide_from _ _ w (sym (e ∙ met_answer)) in
-    rw t refl
+      let t = wide_from _ _ w (sym (e ∙ met_answer)) in
+      rw t refl
 
   pub outcome-unmet : Ok false ≡ met (kinds_of task) (look_of state) action.condition os → outcome_for task state objects (Some action) ≡ Err (fault.NotApplicable why.Condition)
   outcome-unmet e =
-    let k = sym (e ∙ met_answer) in
-    rw (narrow_from _ _ _ k, value_from _ _ _ k) refl
+      let k = sym (e ∙ met_answer) in
+      rw (narrow_from _ _ _ k, value_from _ _ _ k) refl
 
   module _ (ps : List ℕ) (front : List Change) (at : ps ≡ os) (none : front ≡ []) where
     pub outcome-fails : Ok true ≡ met (kinds_of task) (look_of state) action.condition os → (reason : ApplyFault) → Fails (fired (kinds_of task) (look_of state) action.effect ps front) reason → Gives (outcome_for task state objects (Some action)) (Err reason)
     outcome-fails e fault.Wide h =
-      let k = sym (e ∙ met_answer) in
-      let t = wide_from _ _ wide (sym (fired_answer ps front at none) ∙ h) in
-      rw (narrow_from _ _ _ k, value_from _ _ _ k, t) refl
+        let k = sym (e ∙ met_answer) in
+        let t = wide_from _ _ wide (sym (fired_answer ps front at none) ∙ h) in
+        rw (narrow_from _ _ _ k, value_from _ _ _ k, t) refl
     outcome-fails e (fault.NotApplicable reason) h = absurd h
     outcome-fails e fault.Memory h = tt
 
     pub outcome-changed : Ok true ≡ met (kinds_of task) (look_of state) action.condition os → (changes : List Change) → fired (kinds_of task) (look_of state) action.effect ps front ≡ Ok changes → outcome_for task state objects (Some action) ≡ changed_outcome state changes
     outcome-changed e changes h =
-      let k = sym (e ∙ met_answer) in
-      let f = sym (fired_answer ps front at none) ∙ h in
-      rw (narrow_from _ _ _ k, value_from _ _ _ k, narrow_from _ _ _ f, value_from _ _ _ f) refl
+        let k = sym (e ∙ met_answer) in
+        let f = sym (fired_answer ps front at none) ∙ h in
+        rw (narrow_from _ _ _ k, value_from _ _ _ k, narrow_from _ _ _ f, value_from _ _ _ f) refl

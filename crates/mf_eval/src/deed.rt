@@ -10,7 +10,7 @@ use mf_model::{Atom, Cell, List, Op, Term};
 use std::alloc::Global;
 
 /// What a firing effect does; the value of a numeric one is its right side in the old state.
-#[derive(Debug, Drop)]
+#[derive(Drop)]
 pub(crate) enum Deed {
     Added(Atom),
     Deleted(Atom),

@@ -5,7 +5,7 @@ ghost use Rattle.std.specs.Prelude.{◌≡◌};
 use mf_fraction::{DivFault, Frac, Wide, add, div, mul, neg, sub};
 
 /// An operation of two values.
-#[derive(Clone, Copy, Debug, PartialEq, Eq)]
+#[derive(Clone, Copy)]
 pub(crate) enum Operation {
     Sum,
     Difference,

@@ -8,7 +8,7 @@ use mf_model::{Atom, Cell, Valued};
 use std::alloc::Global;
 
 /// A place in a sorted list.
-#[derive(Clone, Copy, Debug)]
+#[derive(Clone, Copy)]
 pub(crate) enum Place {
     There(usize),
     New(usize),

@@ -9,5 +9,5 @@ returns c =
     let state = c.args.state.now in
     subst (λ outcome. Gives outcome c.apply_action.result)
     (ap (λ (objects : List ℕ). outcome_for task state objects (Some c.in-Some.action.now)) c.as_slice.ensures
-      ∙ ap (λ (action : Option Action). outcome_for task state c.args.instance.now.objects action) (c.in-Some.ensures.value ∙ ap (slice_get task.actions) c.from.ensures))
+    ∙ ap (λ (action : Option Action). outcome_for task state c.args.instance.now.objects action) (c.in-Some.ensures.value ∙ ap (slice_get task.actions) c.from.ensures))
     c.apply_action.ensures

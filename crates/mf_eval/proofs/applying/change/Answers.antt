@@ -16,7 +16,7 @@ returns-in_err-values c =
     let p = err_from_is_err_and c.from_residual.result c.from_residual.ensures.1 in
     let changes = changes_in c.args.deeds.now in
     rw (p.1, p.2) (changed-fails c.args.state.now changes (sym c.are_defined.ensures ∙ c.if-not-are_defined.false) (sym c.are_apart.ensures ∙ c.if-not-are_apart.false) _
-      (subst (λ (values : List Valued). Fails (kept_changes values changes) c.in_err-values.field-0.0) c.as_slice.ensures c.in_err-values.ensures))
+    (subst (λ (values : List Valued). Fails (kept_changes values changes) c.in_err-values.field-0.0) c.as_slice.ensures c.in_err-values.ensures))
 
 pub returns : goal.returns
 returns c =
