@@ -1,0 +1,14 @@
+pub mod Ancestors
+pub mod ConditionLaw
+pub mod EffectLaw
+pub mod ExpressionLaw
+pub mod Judging
+pub mod Kept
+pub mod Numbers
+pub mod Ordered
+pub mod Outcomes
+pub mod Parts
+pub mod Placing
+pub mod Threading
+pub mod Truths
+pub mod Zero

@@ -1,0 +1,42 @@
+-- How many variables a condition or an effect binds.
+use Rattle.std.specs.Prelude.{ℕ, ◌+◌, max, List, [], ◌∷◌, length, Option, Some, None}
+use Rattle.mf_model.specs.declared.task.Action.{Action}
+use Rattle.mf_model.specs.declared.task.Cond.{Cond, fold-Cond}
+use Rattle.mf_model.specs.declared.task.Cond.TheOpen.{Cond-F}
+use Rattle.mf_model.specs.declared.task.Effect.{Effect, fold-Effect}
+use Rattle.mf_model.specs.declared.task.Effect.TheOpen.{Effect-F}
+
+abbrev pub greatest : List ℕ → ℕ
+greatest [] = 0
+greatest (n ∷ ns) = max n (greatest ns)
+
+abbrev pub scope_step : Cond-F ℕ → ℕ
+scope_step (Cond-F.Atom predicate terms) = 0
+scope_step (Cond-F.Same left right) = 0
+scope_step (Cond-F.Compare relation left right) = 0
+scope_step (Cond-F.Not part) = part
+scope_step (Cond-F.And parts) = greatest parts
+scope_step (Cond-F.Or parts) = greatest parts
+scope_step (Cond-F.Imply left right) = max left right
+scope_step (Cond-F.All variables part) = length variables + part
+scope_step (Cond-F.Any variables part) = length variables + part
+
+-- the greatest number of variables of quantifiers that are in scope at one place of a condition
+abbrev pub scope_of : Cond → ℕ
+scope_of = fold-Cond ℕ scope_step
+
+abbrev pub effect_scope_step : Effect-F ℕ → ℕ
+effect_scope_step (Effect-F.Add predicate terms) = 0
+effect_scope_step (Effect-F.Delete predicate terms) = 0
+effect_scope_step (Effect-F.Change op function terms value) = 0
+effect_scope_step (Effect-F.Group parts) = greatest parts
+effect_scope_step (Effect-F.Each variables part) = length variables + part
+effect_scope_step (Effect-F.When condition part) = max (scope_of condition) part
+
+abbrev pub effect_scope_of : Effect → ℕ
+effect_scope_of = fold-Effect ℕ effect_scope_step
+
+-- beside the parameters
+abbrev pub action_scope_of : Option Action → ℕ
+action_scope_of (Some action) = max (scope_of action.condition) (effect_scope_of action.effect)
+action_scope_of None = 0

@@ -1,0 +1,88 @@
+ghost use Rattle.mf_eval.specs.Fired.{changes_in};
+ghost use Rattle.mf_eval.specs.Outcome.{Gives, changed_outcome, outcome_for, outcome_of};
+ghost use Rattle.mf_eval.specs.Scope.{action_scope_of};
+ghost use Rattle.std.specs.Prelude.{◌+◌, ◌≤◌, Some, length, slice_get};
+
+use crate::atoms::changed_atoms;
+use crate::binding::places;
+use crate::changes::{are_apart, are_defined};
+use crate::condition::is_met;
+use crate::deed::Deed;
+use crate::fault::{ApplyFault, Why};
+use crate::firing::fire;
+use crate::scene::Scene;
+use crate::values::changed_values;
+use mf_model::{Action, Instance, List, PlainState, TypedTask};
+use std::alloc::Global;
+
+/// The state after an applicable instance. All its effects read the old state, and an atom that is both
+/// deleted and added is true.
+///
+/// Else the first of these: `Wide` where the precondition is wide; `Condition` where it does not hold;
+/// `Wide` where an effect condition, or a right side that fires, is wide; `Undefined` where a firing effect
+/// reads an undefined value, or scales down by 0; `Clash` where the firing effects on one term are neither
+/// increases and decreases alone nor exactly one; `Wide` where a partial result does not fit: these start
+/// with the old value and take the effects in order.
+pub fn apply(
+    alloc: Global,
+    task: &TypedTask,
+    instance: &Instance,
+    state: &PlainState,
+) -> Result<PlainState, ApplyFault>
+    requires objects { length task.now.objects ≤ 65535 }
+    requires variables { length instance.now.objects + action_scope_of (slice_get task.now.actions instance.now.action) ≤ 64 }
+    ensures { Gives (outcome_of task.now state.now instance.now) result }
+{
+    let Some(action) = task.actions.get(usize::from(instance.action)) else {
+        return Err(ApplyFault::NotApplicable {
+            why: Why::Condition,
+        });
+    };
+    apply_action(
+        alloc,
+        &Scene { task, state },
+        action,
+        instance.objects.as_slice(),
+    )
+}
+
+fn apply_action(
+    alloc: Global,
+    scene: &Scene<'_>,
+    action: &Action,
+    objects: &[u16],
+) -> Result<PlainState, ApplyFault>
+    requires objects { length scene.now.task.now.objects ≤ 65535 }
+    requires variables { length objects.now + action_scope_of (Some action.now) ≤ 64 }
+    ensures { Gives (outcome_for scene.now.task.now scene.now.state.now objects.now (Some action.now)) result }
+{
+    let mut binding = places(alloc, objects);
+    if !is_met(scene, &action.condition, &mut binding)? {
+        return Err(ApplyFault::NotApplicable {
+            why: Why::Condition,
+        });
+    }
+    let mut deeds = Vec::new(alloc);
+    fire(alloc, scene, &action.effect, &mut binding, &mut deeds)?;
+    change(alloc, scene.state, deeds.as_slice())
+}
+
+// The state after the changes.
+fn change(alloc: Global, state: &PlainState, deeds: &[Deed]) -> Result<PlainState, ApplyFault>
+    ensures { Gives (changed_outcome state.now (changes_in deeds.now)) result }
+{
+    if !are_defined(state, deeds) {
+        return Err(ApplyFault::NotApplicable {
+            why: Why::Undefined,
+        });
+    }
+    if !are_apart(deeds) {
+        return Err(ApplyFault::NotApplicable { why: Why::Clash });
+    }
+    let values = changed_values(alloc, state.values.as_slice(), deeds)?;
+    let atoms = changed_atoms(alloc, state.atoms.as_slice(), deeds)?;
+    Ok(PlainState {
+        atoms: List::from_vec(atoms),
+        values: List::from_vec(values),
+    })
+}
