@@ -5,9 +5,9 @@ use Rattle.mf_model.specs.declared.task.TypedTask.{TypedTask}
 use Rattle.mf_model.specs.Built.{IsBuiltDomainFile, IsTaskOfFiles}
 use Rattle.mf_model.specs.declared.form.FileKind.{FileKind}
 use Rattle.mf_model.specs.declared.form.FileKind.TheVariants.{DomainFile, ProblemFile}
-use Rattle.mf_reader.specs.declared.fault.BuiltFault.{BuiltFault}
-use Rattle.mf_reader.specs.declared.fault.BuiltFault.TheVariants as fault
-use Rattle.mf_reader.specs.Files.{IsCause, IsNotBuilt}
+use Rattle.mf_built.specs.declared.fault.BuiltFault.{BuiltFault}
+use Rattle.mf_built.specs.declared.fault.BuiltFault.TheVariants as fault
+use Rattle.mf_built.specs.Files.{IsCause, IsNotBuilt}
 use Rattle.mf_top.specs.declared.outcome.Outcome.{Outcome}
 use Rattle.mf_top.specs.declared.outcome.Outcome.TheVariants.{NotBuilt, OutOfMemory}
 use Rattle.mf_top.specs.Outcome.{ReadsTask}

@@ -15,7 +15,7 @@ use crate::{Outcome, Request};
 use mf_io::Folder;
 use mf_model::{FileKind, List, Text, TypedTask};
 use mf_plain::{History, Searched, Status, TraceFault, plan_of, search};
-use mf_reader::{BuiltFault, read_built};
+use mf_built::{BuiltFault, read_built};
 use std::alloc::Global;
 
 /// An outcome, and the history of its search.
