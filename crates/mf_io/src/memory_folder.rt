@@ -29,6 +29,13 @@ impl MemoryFolder {
         }
     }
 
+    /// The loads so far, in order.
+    pub fn log(&self) -> &[Loading]
+        ensures { result.now ≡ self.now.log }
+    {
+        self.log.as_slice()
+    }
+
     // What the next load answers.
     fn outcome(&self, alloc: Global, name: &[u8], most: usize) -> Result<Loaded, LoadFault>
         ensures { Answers (outcome_of self.now name.now most) result }

@@ -12,10 +12,10 @@ ghost use Rattle.mf_top.specs.Outcome.{no_history, LoadsTask, EndsSearch, Ends, 
 use crate::load::load_file;
 use crate::texts::plan_text;
 use crate::{Outcome, Request};
+use mf_built::{BuiltFault, read_built};
 use mf_io::Folder;
 use mf_model::{FileKind, List, Text, TypedTask};
 use mf_plain::{History, Searched, Status, TraceFault, plan_of, search};
-use mf_built::{BuiltFault, read_built};
 use std::alloc::Global;
 
 /// An outcome, and the history of its search.

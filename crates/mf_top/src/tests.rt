@@ -247,5 +247,6 @@ fn words_with_one_missing_are_refused(rt: HostRuntime) -> Result<(), Fail> {
     let ended = run(alloc, words, &mut files, &mut out, &mut err);
     assert_eq!(rt; ended.status, 2);
     assert_eq!(rt; err.bytes(), b"words refused\n".as_slice());
+    assert_eq!(rt; files.log().len(), 0);
     Ok(())
 }
