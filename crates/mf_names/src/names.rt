@@ -1,4 +1,5 @@
-ghost use Rattle.std.specs.Prelude.{◌≡◌, ◌<◌, [], ◌∷◌, ◌++◌, length, OnOk, OnErr, IfSome, None};
+ghost use Rattle.std.specs.Prelude.{◌≡◌, ◌<◌, [], ◌∷◌, ◌++◌, length, slice_get, OnOk, OnErr, IfSome, None};
+ghost use Rattle.std.specs.Option.{option_copied};
 ghost use Rattle.mf_model.specs.Resolution.{number_of};
 
 use indexmap::IndexSet;
@@ -35,6 +36,23 @@ impl Names {
         ensures within { IfSome result (λ n. n < length self.now) }
     {
         self.texts.get_index_of(name)
+    }
+
+    /// How many there are.
+    pub fn len(&self) -> usize
+        ensures { result ≡ length self.now }
+    {
+        self.texts.len()
+    }
+
+    /// The name at a place.
+    pub fn get(&self, at: usize) -> Option<&[u8]>
+        ensures { option_copied result ≡ slice_get self.now at }
+    {
+        match self.texts.get_index(at) {
+            Some(text) => Some(text.as_slice()),
+            None => None,
+        }
     }
 
     /// Enters a name behind the others.
