@@ -1,0 +1,33 @@
+mod ActionReadings
+mod AtomReadings
+mod Branches
+mod Choices
+mod CondReadings
+mod CondSound
+mod DeclReadings
+mod DomainReadings
+mod EffectReadings
+mod EffectSound
+mod ExprReadings
+mod ExprRows
+mod ExprSound
+mod FileLaws
+mod FileOrder
+mod FormOrder
+mod HeadReadings
+mod InitReadings
+mod LawForms
+mod PartOrder
+mod ProblemReadings
+mod Readings
+mod Rows
+mod SectionOrder
+mod SectionReadings
+mod SlotReadings
+mod TitleReadings
+mod TreeOrder
+mod TypedReadings
+mod WordOrder
+mod WordReadings
+pub mod InitSteps
+pub mod Saying

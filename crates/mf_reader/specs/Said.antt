@@ -53,3 +53,7 @@ Refuses (BadForm span) faults = FirstIs (BadForm span) faults
 abbrev pub Gives : {A : Type 0} → Result A FormFault → Said A → Type 0
 Gives (Ok v) x = (x.faults ≡ []) × (x.value ≡ v)
 Gives (Err fault) x = Refuses fault x.faults
+
+-- no fault stands, and this is the value
+abbrev pub IsWhole : {A : Type 0} → Said A → A → Type 0
+IsWhole x v = (x.faults ≡ []) × (x.value ≡ v)
