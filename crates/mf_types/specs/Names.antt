@@ -1,6 +1,6 @@
 -- What a domain and a problem declare: names in the order of their numbers, each with what its first
 -- declaration says of it.
-use Rattle.std.specs.Prelude.{ℕ, Bool, true, false, if◌then◌else◌, nat_eq, Option, Some, None, List, [], ◌∷◌, ◌++◌, map, codes}
+use Rattle.std.specs.Prelude.{ℕ, Bool, true, false, if◌then◌else◌, ◌&&◌, nat_eq, Option, Some, None, List, [], ◌∷◌, ◌++◌, map, codes}
 use Rattle.std.specs.List.{list_any, flat_map}
 use Rattle.std.specs.Str.{bytes_eq}
 use Rattle.mf_model.specs.declared.form.Word.{Word}
@@ -26,7 +26,7 @@ pub record Declared : Type 0 where
   pub predicate_types : List (List (List ℕ))
   pub functions : List (List ℕ)
   pub function_types : List (List (List ℕ))
-  -- the functions that an effect of some action changes
+  -- the functions that an effect of some action changes, each once
   pub changed : List (List ℕ)
 
 abbrev pub is_member : List (List ℕ) → List ℕ → Bool
@@ -61,10 +61,14 @@ abbrev pub shares : List Word → List Typed → Bool
 shares words [] = false
 shares words (item ∷ items) = same_words words item.types
 
+-- the parent of a group stands behind its last item
+abbrev pub parents_behind : Typed → List Typed → List Word
+parents_behind item others = if shares item.types others then [] else item.types
+
 -- the words of `:types` in the order of the text: the items of a group, then its parent
 abbrev pub type_words : List Typed → List Word
 type_words [] = []
-type_words (item ∷ items) = item.word ∷ (if shares item.types items then [] else item.types) ++ type_words items
+type_words (item ∷ items) = item.word ∷ parents_behind item items ++ type_words items
 
 -- each type once, without `object`
 abbrev pub type_firsts : List Typed → List Word
@@ -90,14 +94,29 @@ types_of names (w ∷ ws) = numbers_of names (w ∷ ws)
 abbrev pub item_types : List (List ℕ) → Typed → List ℕ
 item_types names item = types_of names item.types
 
+abbrev pub head_or_zero : List ℕ → ℕ
+head_or_zero [] = 0
+head_or_zero (n ∷ ns) = n
+
+abbrev pub names_object : List Word → Bool
+names_object [] = true
+names_object (w ∷ ws) = bytes_eq w.text object_name
+
+-- an item `object` under `object` says nothing
+abbrev pub says_nothing : Typed → Bool
+says_nothing item = bytes_eq item.word.text object_name && names_object item.types
+
+abbrev pub kept_types : List Typed → List Typed
+kept_types [] = []
+kept_types (item ∷ items) = if says_nothing item then kept_types items else item ∷ kept_types items
+
 -- the first item of a name says its parent; a type that only stands as a parent stands under `object`
 abbrev pub parent_in : List (List ℕ) → List Typed → List ℕ → ℕ
 parent_in names [] name = 0
 parent_in names (item ∷ items) name = if bytes_eq item.word.text name then head_or_zero (types_of names item.types) else parent_in names items name
-  where
-    head_or_zero : List ℕ → ℕ
-    head_or_zero [] = 0
-    head_or_zero (n ∷ ns) = n
+
+abbrev pub parents_of : List Typed → List ℕ
+parents_of items = map (parent_in (type_names items) (kept_types items)) (type_names items)
 
 -- Symbols
 
@@ -123,12 +142,12 @@ changed_in actions = flat_map (λ a. changed_by a.effect) actions
 abbrev pub declared_by : Domain → Problem → Declared
 declared_by d p = record {
   types = type_names d.types;
-  parents = map (parent_in (type_names d.types) d.types) (type_names d.types);
+  parents = parents_of d.types;
   objects = map item_text (firsts item_text [] (d.constants ++ p.objects));
   object_types = map (item_types (type_names d.types)) (firsts item_text [] (d.constants ++ p.objects));
   predicates = map header_text (firsts header_text [] d.predicates);
   predicate_types = map (header_types (type_names d.types)) (firsts header_text [] d.predicates);
   functions = map header_text (firsts header_text [] d.functions);
   function_types = map (header_types (type_names d.types)) (firsts header_text [] d.functions);
-  changed = changed_in d.actions;
+  changed = firsts (λ name. name) [] (changed_in d.actions);
 }

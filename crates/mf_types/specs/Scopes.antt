@@ -2,12 +2,8 @@
 use Rattle.std.specs.Prelude.{ℕ, suc, Bool, if◌then◌else◌, Option, Some, None, List, [], ◌∷◌, map}
 use Rattle.std.specs.Str.{bytes_eq}
 use Rattle.mf_model.specs.declared.form.Typed.{Typed}
+use Rattle.mf_types.specs.declared.scope.Variable.{Variable}
 use Rattle.mf_types.specs.Names.{item_types}
-
--- a variable with its declared types
-pub record Variable : Type 0 where
-  pub name : List ℕ
-  pub types : List ℕ
 
 abbrev pub Scope : Type 0
 Scope = List Variable

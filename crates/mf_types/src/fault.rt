@@ -5,7 +5,8 @@ use thiserror::Error;
 /// Why two files give no task: the file and the span of the fault.
 #[derive(Clone, Copy, Debug, Drop, PartialEq, Eq, Error)]
 pub enum NameFault {
-    /// A second declaration of a name, or a second start value of a term that differs from the first.
+    /// A second declaration of a name, or a second start value of a term that differs from the
+    /// first.
     #[error("declared twice: {file:?}, {span:?}")]
     Twice { file: FileKind, span: Span },
     /// The first type of a cycle of parents.

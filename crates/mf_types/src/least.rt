@@ -5,7 +5,7 @@ use mf_model::{FileKind, Span};
 
 /// What is wrong at a place, in the order in which faults at one place are named.
 #[derive(Clone, Copy, Debug)]
-pub(crate) enum FaultKind {
+pub enum FaultKind {
     Twice,
     TypeCycle,
     UnknownName,
@@ -18,10 +18,10 @@ pub(crate) enum FaultKind {
 
 /// A fault with its place.
 #[derive(Clone, Copy, Debug)]
-pub(crate) struct Fault {
-    pub(crate) kind: FaultKind,
-    pub(crate) file: FileKind,
-    pub(crate) span: Span,
+pub struct Fault {
+    pub kind: FaultKind,
+    pub file: FileKind,
+    pub span: Span,
 }
 
 fn rank(kind: FaultKind) -> u8

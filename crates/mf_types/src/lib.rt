@@ -1,7 +1,37 @@
 //! Names, types and numbers: the typed task of a domain and a problem.
 #![tactic(auto)]
 
+mod arguments;
+mod building;
+mod changed;
+mod checking;
+mod conditions;
+mod cycles;
+mod decimals;
+mod declarations;
+mod declared;
+mod effects;
+mod entering;
+mod expressions;
 mod fault;
+mod kept;
+mod laws;
 mod least;
+mod listing;
+mod meaning;
+mod quantified;
+mod refusal;
+mod resolution;
+mod scope;
+mod site;
+mod start_values;
+mod tables;
+mod type_table;
+mod uses;
+mod words;
 
 pub use fault::NameFault;
+pub use laws::least_is_answered;
+pub use least::{Fault, FaultKind};
+pub use meaning::{faultless_files_have_a_task, task_is_unique, task_is_valid};
+pub use resolution::resolve;

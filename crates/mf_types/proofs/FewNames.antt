@@ -1,0 +1,99 @@
+-- Where no list of declarations goes beyond its limit, there are few names of each kind.
+use Rattle.std.proofs.Common.{◌≡◌, ℕ, ◌+◌, ◌-◌, ◌≤◌, Bool, true, false, ◌&&◌, if◌then◌else◌, nat_le, List, [], ◌∷◌, ◌++◌, map, length, refl, sym, ◌∙◌, arith, length-append}
+use Rattle.std.proofs.lemmas.Bool.Decides.{nat_tests}
+use Rattle.std.proofs.lemmas.List.{length-map}
+use Rattle.mf_model.specs.declared.form.FileKind.TheVariants.{DomainFile, ProblemFile}
+use Rattle.mf_model.specs.declared.form.Word.{Word}
+use Rattle.mf_model.specs.declared.form.Typed.{Typed}
+use Rattle.mf_model.specs.declared.form.Header.{Header}
+use Rattle.mf_model.specs.declared.form.Domain.{Domain}
+use Rattle.mf_model.specs.declared.form.Problem.{Problem}
+use Rattle.mf_types.specs.Declarations.{beyond, repeats, list_faults, object_list_faults, item_words, header_words, action_words}
+use Rattle.mf_types.specs.DeclarationFaults.{type_list_faults, object_faults, header_list_faults, action_list_faults, declaration_faults_in}
+use Rattle.mf_types.specs.Names.{Declared, declared_by, is_member, firsts, text_of, type_firsts, item_text, header_text, kept_types, type_names}
+use Rattle.mf_types.specs.Sites.{Site}
+use Rattle.mf_types.specs.Tables.{entered}
+use Rattle.mf_types.specs.Tasks.{are_few}
+use Rattle.mf_types.specs.Uses.{in_domain}
+use Rattle.mf_types.proofs.There.{first_empty, second_empty}
+use Rattle.mf_types.proofs.ThereScopes.{few_words, if_true}
+
+-- first ones of each name are no more than all
+few_firsts : {A : Type 0} (name : A → List ℕ) (seen : List (List ℕ)) (items : List A) → length (firsts name seen items) ≤ length items
+few_firsts name seen [] = omega arith
+few_firsts name seen (item ∷ items) =
+    let fewer = few_firsts name seen items in
+    let further = few_firsts name (seen ++ name item ∷ []) items in
+    elim (is_member seen (name item)) as (λ b. length (if b then firsts name seen items else item ∷ firsts name (seen ++ name item ∷ []) items) ≤ length (item ∷ items))
+    [ true ↦ omega (arith, fewer) | false ↦ omega (arith, further) ]
+
+few_names : {A : Type 0} (name : A → List ℕ) (items : List A) (most : ℕ) → length items ≤ most → length (map name (firsts name [] items)) ≤ most
+few_names name items most h =
+    let same = length-map (firsts name [] items) name in
+    let fewer = few_firsts name [] items in
+    omega (arith, same, fewer, h)
+
+few_types : (declared : Declared) (items : List Typed) → type_list_faults declared items ≡ [] → length (type_names items) ≤ 10001
+few_types declared items e =
+    let front = repeats DomainFile [] (item_words (kept_types items)) in
+    let list = first_empty (front ++ beyond DomainFile 10000 (type_firsts items)) _ e in
+    let count = few_words DomainFile 10000 (type_firsts items) (second_empty front _ list) in
+    let same = length-map (type_firsts items) text_of in
+    omega (arith, count, same)
+
+few_headers : (site : Site) (headers : List Header) → header_list_faults site headers ≡ [] → length headers ≤ 10000
+few_headers site headers e =
+    let list = first_empty (list_faults DomainFile 10000 (header_words headers)) _ e in
+    let count = few_words DomainFile 10000 (header_words headers) (second_empty (repeats DomainFile [] (header_words headers)) _ list) in
+    let same = length-map headers (λ (h : Header). h.word) in
+    omega (arith, count, same)
+
+few_objects : (constants objects : List Word) → object_list_faults constants objects ≡ [] → length constants + length objects ≤ 65535
+few_objects constants objects e =
+    let own = list_faults DomainFile 65535 constants in
+    let again = repeats ProblemFile (entered [] (map text_of constants)) objects in
+    let front = first_empty (own ++ again) _ e in
+    let first = few_words DomainFile 65535 constants (second_empty (repeats DomainFile [] constants) _ (first_empty own _ front)) in
+    let behind = second_empty (own ++ again) _ e in
+    let within : nat_le (length constants) 65535 ≡ true = grind (arith, nat_tests, first) in
+    let second = few_words ProblemFile (65535 - length constants) objects (sym (if_true (nat_le (length constants) 65535) _ [] within) ∙ behind) in
+    omega (arith, first, second)
+
+tested : (a b c d e : Bool) → a ≡ true → b ≡ true → c ≡ true → d ≡ true → e ≡ true → (a && b && c && d && e) ≡ true
+tested a b c d e h k l m n = rw (h, k, l, m, n) refl
+
+at_most : (n m : ℕ) → n ≤ m → nat_le n m ≡ true
+at_most n m h = grind (arith, nat_tests)
+
+pub few_declared : (d : Domain) (p : Problem) → declaration_faults_in (declared_by d p) d p ≡ [] → are_few (declared_by d p) d ≡ true
+few_declared d p e =
+    let declared = declared_by d p in
+    let site = in_domain declared in
+    let type_part = type_list_faults declared d.types in
+    let object_part = object_faults declared d.constants p.objects in
+    let predicate_part = header_list_faults site d.predicates in
+    let function_part = header_list_faults site d.functions in
+    let action_part = action_list_faults site d.actions in
+    let to_actions = first_empty ((((type_part ++ object_part) ++ predicate_part) ++ function_part) ++ action_part) _ e in
+    let to_functions = first_empty (((type_part ++ object_part) ++ predicate_part) ++ function_part) _ to_actions in
+    let to_predicates = first_empty ((type_part ++ object_part) ++ predicate_part) _ to_functions in
+    let to_objects = first_empty (type_part ++ object_part) _ to_predicates in
+    let types = first_empty type_part _ to_objects in
+    let objects = second_empty type_part _ to_objects in
+    let predicates = second_empty (type_part ++ object_part) _ to_predicates in
+    let functions = second_empty ((type_part ++ object_part) ++ predicate_part) _ to_functions in
+    let actions = second_empty (((type_part ++ object_part) ++ predicate_part) ++ function_part) _ to_actions in
+    let words = object_list_faults (item_words d.constants) (item_words p.objects) in
+    let list = few_objects (item_words d.constants) (item_words p.objects) (first_empty words _ (first_empty (words ++ _) _ objects)) in
+    let constants_are = length-map d.constants (λ (item : Typed). item.word) in
+    let objects_are = length-map p.objects (λ (item : Typed). item.word) in
+    let both = length-append d.constants p.objects in
+    let action_list = first_empty (list_faults DomainFile 1000 (action_words d.actions)) _ actions in
+    let action_count = few_words DomainFile 1000 (action_words d.actions) (second_empty (repeats DomainFile [] (action_words d.actions)) _ action_list) in
+    let actions_are = length-map d.actions (λ a. a.word) in
+    tested (nat_le (length declared.types) 10001) (nat_le (length declared.objects) 65535) (nat_le (length declared.predicates) 10000) (nat_le (length declared.functions) 10000) (nat_le (length d.actions) 1000)
+    (at_most _ _ (few_types declared d.types types))
+    (at_most _ _ (few_names item_text (d.constants ++ p.objects) 65535 (omega (arith, list, constants_are, objects_are, both))))
+    (at_most _ _ (few_names header_text d.predicates 10000 (few_headers site d.predicates predicates)))
+    (at_most _ _ (few_names header_text d.functions 10000 (few_headers site d.functions functions)))
+    (at_most _ _ (omega (arith, action_count, actions_are)))

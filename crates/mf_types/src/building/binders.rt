@@ -1,0 +1,96 @@
+ghost use Rattle.std.specs.Prelude.{◌≡◌, ◌≤◌, ◌++◌, [], length, map, IfOk, OnOk};
+ghost use Rattle.mf_model.specs.Resolution.{typed_names};
+ghost use Rattle.mf_types.specs.Gives.{Gives};
+ghost use Rattle.mf_types.specs.Names as names;
+ghost use Rattle.mf_types.specs.Tables.{declared_of};
+ghost use Rattle.mf_types.specs.Tasks.{AreFew};
+ghost use Rattle.mf_types.specs.Typing as spec;
+
+use crate::refusal::Refusal;
+use crate::tables::Tables;
+use mf_model::{List, Text, Typed, Types, Word};
+use std::alloc::{AllocError, Global};
+
+// The most variables in scope.
+const MOST_VARIABLES: usize = 64;
+
+/// Adds the names of items to a list.
+fn add_names(alloc: Global, out: &mut List<Text>, items: &[Typed]) -> Result<(), AllocError>
+    ensures { OnOk result (out.new ≡ out.old ++ typed_names items.now) }
+{
+    for item in items {
+        out.push(item.word.text.copy(alloc)?)?;
+    }
+    Ok(())
+}
+
+/// Adds texts to a list.
+fn add_texts(alloc: Global, out: &mut List<Text>, texts: &[Text]) -> Result<(), AllocError>
+    ensures { OnOk result (out.new ≡ out.old ++ texts.now) }
+{
+    for text in texts {
+        out.push(text.copy(alloc)?)?;
+    }
+    Ok(())
+}
+
+/// The variables in scope inside a list of variables.
+#[tactic(auto, unfolding(crate::specs::Typing::inside))]
+pub(crate) fn inside(
+    alloc: Global,
+    binders: &[Text],
+    items: &[Typed],
+) -> Result<List<Text>, Refusal>
+    requires { length binders.now ≤ 64 }
+    ensures names { Gives result (spec.inside binders.now items.now) }
+    ensures room { IfOk result (λ names. length names ≤ 64) }
+{
+    if items.len() > MOST_VARIABLES - binders.len() {
+        return Err(Refusal::Refused);
+    }
+    let mut out = List::new(alloc);
+    add_texts(alloc, &mut out, binders)?;
+    add_names(alloc, &mut out, items)?;
+    Ok(out)
+}
+
+/// The numbers of the types that are declared.
+fn numbers(alloc: Global, tables: &Tables, words: &[Word]) -> Result<Types, AllocError>
+    requires few { AreFew (declared_of tables.now) }
+    ensures { IfOk result (λ ns. ns ≡ names.numbers_of (declared_of tables.now).types words.now) }
+{
+    let mut out = List::new(alloc);
+    for word in words {
+        if let Some(number) = tables.find_type(word.text.as_slice()) {
+            out.push(number as u16)?;
+        }
+    }
+    Ok(out)
+}
+
+/// The declared types of an item: `object` where none are written.
+fn item_types(alloc: Global, tables: &Tables, item: &Typed) -> Result<Types, AllocError>
+    requires few { AreFew (declared_of tables.now) }
+    ensures { IfOk result (λ ns. ns ≡ names.item_types (declared_of tables.now).types item.now) }
+{
+    if item.types.is_empty() {
+        return List::from_slice(alloc, &[0]);
+    }
+    numbers(alloc, tables, item.types.as_slice())
+}
+
+/// The declared types of each item.
+pub(crate) fn types(
+    alloc: Global,
+    tables: &Tables,
+    items: &[Typed],
+) -> Result<List<Types>, AllocError>
+    requires few { AreFew (declared_of tables.now) }
+    ensures { IfOk result (λ types. types ≡ spec.types_in (declared_of tables.now) items.now) }
+{
+    let mut out = List::new(alloc);
+    for item in items {
+        out.push(item_types(alloc, tables, item)?)?;
+    }
+    Ok(out)
+}

@@ -1,0 +1,206 @@
+ghost use Rattle.std.specs.Prelude.{◌≡◌, ◌≤◌, length};
+ghost use Rattle.mf_model.specs.declared.task.Cond.TheVariants as cond;
+ghost use Rattle.mf_types.specs.Gives.{Gives, made};
+ghost use Rattle.mf_types.specs.Tables.{declared_of};
+ghost use Rattle.mf_types.specs.Tasks.{AreFew};
+ghost use Rattle.mf_types.specs.Typing as spec;
+
+use super::binders::{inside, types};
+use super::expressions::expression;
+use super::leaves::{predicate, term, terms};
+use crate::refusal::Refusal;
+use crate::tables::Tables;
+use mf_model::{Cond, Expr, RawCond, RawExpr, Relation, Text, Typed, Word};
+use sqlite_items::{Boxed, Items};
+use std::alloc::Global;
+
+fn atom(
+    alloc: Global,
+    tables: &Tables,
+    binders: &[Text],
+    word: &Word,
+    words: &[Word],
+) -> Result<Cond, Refusal>
+    requires few { AreFew (declared_of tables.now) }
+    requires room { length binders.now ≤ 64 }
+    ensures { Gives result (spec.atom_cond (declared_of tables.now) word.now words.now binders.now) }
+{
+    let predicate = predicate(tables, word, words.len())?;
+    let terms = terms(alloc, tables, binders, words)?;
+    Ok(Cond::Atom { predicate, terms })
+}
+
+fn same(tables: &Tables, binders: &[Text], left: &Word, right: &Word) -> Result<Cond, Refusal>
+    requires few { AreFew (declared_of tables.now) }
+    requires room { length binders.now ≤ 64 }
+    ensures { Gives result (spec.both cond.Same (spec.term_of (declared_of tables.now) binders.now left.now) (spec.term_of (declared_of tables.now) binders.now right.now)) }
+{
+    let left = term(tables, binders, left)?;
+    let right = term(tables, binders, right)?;
+    Ok(Cond::Same { left, right })
+}
+
+/// The comparison of a side and another one, if that was read.
+fn compared(relation: Relation, left: Expr, right: Result<Expr, Refusal>) -> Result<Cond, Refusal>
+    ensures { result ≡ made (cond.Compare relation left) right }
+{
+    match right {
+        Ok(right) => Ok(Cond::Compare {
+            relation,
+            left,
+            right,
+        }),
+        Err(refusal) => Err(refusal),
+    }
+}
+
+#[tactic(auto, using(crate::proofs::Made::made_gives))]
+fn comparison(
+    alloc: Global,
+    tables: &Tables,
+    binders: &[Text],
+    relation: Relation,
+    left: &RawExpr,
+    right: &RawExpr,
+) -> Result<Cond, Refusal>
+    requires few { AreFew (declared_of tables.now) }
+    requires room { length binders.now ≤ 64 }
+    ensures { Gives result (spec.both (cond.Compare relation) (spec.expr_of (declared_of tables.now) left.now binders.now) (spec.expr_of (declared_of tables.now) right.now binders.now)) }
+{
+    let left = expression(alloc, tables, binders, left)?;
+    let right = expression(alloc, tables, binders, right);
+    compared(relation, left, right)
+}
+
+/// The implication of a part and another one, if that was read.
+fn implication(left: Boxed<Cond>, right: Result<Boxed<Cond>, Refusal>) -> Result<Cond, Refusal>
+    ensures { result ≡ made (cond.Imply left) right }
+{
+    match right {
+        Ok(right) => Ok(Cond::Imply { left, right }),
+        Err(refusal) => Err(refusal),
+    }
+}
+
+/// A condition over numbers.
+#[tactic(auto, using(crate::proofs::Made::made_gives))]
+#[cycle(condition)]
+pub(crate) fn condition(
+    alloc: Global,
+    tables: &Tables,
+    binders: &[Text],
+    raw: &RawCond,
+) -> Result<Cond, Refusal>
+    requires few { AreFew (declared_of tables.now) }
+    requires room { length binders.now ≤ 64 }
+    ensures { Gives result (spec.cond_of (declared_of tables.now) raw.now binders.now) }
+{
+    match raw {
+        RawCond::Atom {
+            predicate,
+            terms,
+            ..
+        } => atom(alloc, tables, binders, predicate, terms.as_slice()),
+        RawCond::Same { left, right, .. } => same(tables, binders, left, right),
+        RawCond::Compare {
+            relation,
+            left,
+            right,
+            ..
+        } => comparison(alloc, tables, binders, *relation, left, right),
+        RawCond::Not { part, .. } => {
+            let part = boxed(alloc, tables, binders, part.get())?;
+            Ok(Cond::Not { part })
+        }
+        RawCond::And { parts, .. } => {
+            let parts = conditions(alloc, tables, binders, parts.as_slice())?;
+            Ok(Cond::And { parts })
+        }
+        RawCond::Or { parts, .. } => {
+            let parts = conditions(alloc, tables, binders, parts.as_slice())?;
+            Ok(Cond::Or { parts })
+        }
+        RawCond::Imply { left, right, .. } => {
+            let left = boxed(alloc, tables, binders, left.get())?;
+            let right = boxed(alloc, tables, binders, right.get());
+            implication(left, right)
+        }
+        RawCond::All {
+            variables,
+            part,
+            ..
+        } => {
+            let types = types(alloc, tables, variables.as_slice())?;
+            let part = inner(alloc, tables, binders, variables.as_slice(), part.get())?;
+            Ok(Cond::All {
+                variables: types,
+                part,
+            })
+        }
+        RawCond::Any {
+            variables,
+            part,
+            ..
+        } => {
+            let types = types(alloc, tables, variables.as_slice())?;
+            let part = inner(alloc, tables, binders, variables.as_slice(), part.get())?;
+            Ok(Cond::Any {
+                variables: types,
+                part,
+            })
+        }
+    }
+}
+
+/// A condition as a part of another one.
+#[cycle(condition)]
+fn boxed(
+    alloc: Global,
+    tables: &Tables,
+    binders: &[Text],
+    raw: &RawCond,
+) -> Result<Boxed<Cond>, Refusal>
+    requires few { AreFew (declared_of tables.now) }
+    requires room { length binders.now ≤ 64 }
+    ensures { Gives result (spec.cond_of (declared_of tables.now) raw.now binders.now) }
+{
+    let part = condition(alloc, tables, binders, raw)?;
+    Ok(Boxed::new(alloc, part)?)
+}
+
+/// A condition inside a list of variables.
+#[cycle(condition)]
+fn inner(
+    alloc: Global,
+    tables: &Tables,
+    binders: &[Text],
+    variables: &[Typed],
+    raw: &RawCond,
+) -> Result<Boxed<Cond>, Refusal>
+    requires few { AreFew (declared_of tables.now) }
+    requires room { length binders.now ≤ 64 }
+    ensures { Gives result (spec.within variables.now (spec.cond_of (declared_of tables.now) raw.now) binders.now) }
+{
+    let inner = inside(alloc, binders, variables)?;
+    boxed(alloc, tables, inner.as_slice(), raw)
+}
+
+/// The parts of a conjunction or a disjunction.
+#[cycle(condition)]
+fn conditions(
+    alloc: Global,
+    tables: &Tables,
+    binders: &[Text],
+    raws: &[RawCond],
+) -> Result<Items<Cond>, Refusal>
+    requires few { AreFew (declared_of tables.now) }
+    requires room { length binders.now ≤ 64 }
+    ensures { Gives result (spec.conds_of (declared_of tables.now) raws.now binders.now) }
+{
+    let mut out = Items::new(alloc);
+    for raw in raws {
+        let part = condition(alloc, tables, binders, raw)?;
+        out.push(part)?;
+    }
+    Ok(out)
+}

@@ -1,0 +1,205 @@
+ghost use Rattle.std.specs.Prelude.{◌≡◌, ◌≤◌, length};
+ghost use Rattle.mf_model.specs.declared.task.Effect.TheVariants as effect;
+ghost use Rattle.mf_types.specs.Gives.{Gives, made};
+ghost use Rattle.mf_types.specs.Tables.{declared_of};
+ghost use Rattle.mf_types.specs.Tasks.{AreFew};
+ghost use Rattle.mf_types.specs.Typing as spec;
+
+use super::binders::{inside, types};
+use super::conditions::condition;
+use super::expressions::expression;
+use super::leaves::{function, predicate, terms};
+use crate::refusal::Refusal;
+use crate::tables::Tables;
+use mf_model::{Cond, Effect, Op, RawEffect, RawExpr, Text, Typed, Word};
+use sqlite_items::{Boxed, Items};
+use std::alloc::Global;
+
+/// An atom that is added.
+fn addition(
+    alloc: Global,
+    tables: &Tables,
+    binders: &[Text],
+    word: &Word,
+    words: &[Word],
+) -> Result<Effect, Refusal>
+    requires few { AreFew (declared_of tables.now) }
+    requires room { length binders.now ≤ 64 }
+    ensures { Gives result (spec.literal (declared_of tables.now) effect.Add word.now words.now binders.now) }
+{
+    let predicate = predicate(tables, word, words.len())?;
+    let terms = terms(alloc, tables, binders, words)?;
+    Ok(Effect::Add { predicate, terms })
+}
+
+/// An atom that is deleted.
+fn deletion(
+    alloc: Global,
+    tables: &Tables,
+    binders: &[Text],
+    word: &Word,
+    words: &[Word],
+) -> Result<Effect, Refusal>
+    requires few { AreFew (declared_of tables.now) }
+    requires room { length binders.now ≤ 64 }
+    ensures { Gives result (spec.literal (declared_of tables.now) effect.Delete word.now words.now binders.now) }
+{
+    let predicate = predicate(tables, word, words.len())?;
+    let terms = terms(alloc, tables, binders, words)?;
+    Ok(Effect::Delete { predicate, terms })
+}
+
+/// A new value of a function term.
+fn change(
+    alloc: Global,
+    tables: &Tables,
+    binders: &[Text],
+    op: Op,
+    word: &Word,
+    words: &[Word],
+    value: &RawExpr,
+) -> Result<Effect, Refusal>
+    requires few { AreFew (declared_of tables.now) }
+    requires room { length binders.now ≤ 64 }
+    ensures { Gives result (spec.change (declared_of tables.now) op word.now words.now value.now binders.now) }
+{
+    let function = function(tables, word, words.len())?;
+    let terms = terms(alloc, tables, binders, words)?;
+    let value = expression(alloc, tables, binders, value)?;
+    Ok(Effect::Change {
+        op,
+        function,
+        terms,
+        value,
+    })
+}
+
+/// An effect under a condition, if the effect was read.
+fn conditional(condition: Cond, part: Result<Boxed<Effect>, Refusal>) -> Result<Effect, Refusal>
+    ensures { result ≡ made (effect.When condition) part }
+{
+    match part {
+        Ok(part) => Ok(Effect::When { condition, part }),
+        Err(refusal) => Err(refusal),
+    }
+}
+
+/// An effect over numbers.
+#[tactic(auto, using(crate::proofs::Made::made_gives))]
+#[cycle(effect)]
+pub(crate) fn effect(
+    alloc: Global,
+    tables: &Tables,
+    binders: &[Text],
+    raw: &RawEffect,
+) -> Result<Effect, Refusal>
+    requires few { AreFew (declared_of tables.now) }
+    requires room { length binders.now ≤ 64 }
+    ensures { Gives result (spec.effect_of (declared_of tables.now) raw.now binders.now) }
+{
+    match raw {
+        RawEffect::Add {
+            predicate,
+            terms,
+            ..
+        } => addition(alloc, tables, binders, predicate, terms.as_slice()),
+        RawEffect::Delete {
+            predicate,
+            terms,
+            ..
+        } => deletion(alloc, tables, binders, predicate, terms.as_slice()),
+        RawEffect::Change {
+            op,
+            function,
+            terms,
+            value,
+            ..
+        } => change(
+            alloc,
+            tables,
+            binders,
+            *op,
+            function,
+            terms.as_slice(),
+            value,
+        ),
+        RawEffect::Group { parts, .. } => {
+            let parts = effects(alloc, tables, binders, parts.as_slice())?;
+            Ok(Effect::Group { parts })
+        }
+        RawEffect::Each {
+            variables,
+            part,
+            ..
+        } => {
+            let types = types(alloc, tables, variables.as_slice())?;
+            let part = inner(alloc, tables, binders, variables.as_slice(), part.get())?;
+            Ok(Effect::Each {
+                variables: types,
+                part,
+            })
+        }
+        RawEffect::When {
+            condition: raw,
+            part,
+            ..
+        } => {
+            let condition = condition(alloc, tables, binders, raw)?;
+            let part = boxed(alloc, tables, binders, part.get());
+            conditional(condition, part)
+        }
+    }
+}
+
+/// An effect as a part of another one.
+#[cycle(effect)]
+fn boxed(
+    alloc: Global,
+    tables: &Tables,
+    binders: &[Text],
+    raw: &RawEffect,
+) -> Result<Boxed<Effect>, Refusal>
+    requires few { AreFew (declared_of tables.now) }
+    requires room { length binders.now ≤ 64 }
+    ensures { Gives result (spec.effect_of (declared_of tables.now) raw.now binders.now) }
+{
+    let part = effect(alloc, tables, binders, raw)?;
+    Ok(Boxed::new(alloc, part)?)
+}
+
+/// An effect inside a list of variables.
+#[cycle(effect)]
+fn inner(
+    alloc: Global,
+    tables: &Tables,
+    binders: &[Text],
+    variables: &[Typed],
+    raw: &RawEffect,
+) -> Result<Boxed<Effect>, Refusal>
+    requires few { AreFew (declared_of tables.now) }
+    requires room { length binders.now ≤ 64 }
+    ensures { Gives result (spec.within variables.now (spec.effect_of (declared_of tables.now) raw.now) binders.now) }
+{
+    let inner = inside(alloc, binders, variables)?;
+    boxed(alloc, tables, inner.as_slice(), raw)
+}
+
+/// The parts of a group.
+#[cycle(effect)]
+fn effects(
+    alloc: Global,
+    tables: &Tables,
+    binders: &[Text],
+    raws: &[RawEffect],
+) -> Result<Items<Effect>, Refusal>
+    requires few { AreFew (declared_of tables.now) }
+    requires room { length binders.now ≤ 64 }
+    ensures { Gives result (spec.effects_of (declared_of tables.now) raws.now binders.now) }
+{
+    let mut out = Items::new(alloc);
+    for raw in raws {
+        let part = effect(alloc, tables, binders, raw)?;
+        out.push(part)?;
+    }
+    Ok(out)
+}

@@ -1,0 +1,23 @@
+ghost use Rattle.std.specs.Prelude.{◌≡◌, [], Some};
+ghost use Rattle.mf_model.specs.declared.form.Domain.{Domain};
+ghost use Rattle.mf_model.specs.declared.form.Problem.{Problem};
+ghost use Rattle.mf_model.specs.declared.task.TypedTask.{TypedTask};
+ghost use Rattle.mf_types.specs.AllFaults.{faults_of};
+ghost use Rattle.mf_types.specs.Tasks.{IsTaskOf};
+ghost use Rattle.mf_types.specs.Valid.{IsValidTask};
+ghost use Rattle.mf_types.specs.Written.{IsWritten};
+
+/// A domain and a problem have one task at most.
+pub fn task_is_unique()
+    ensures { (d : Domain) (p : Problem) (one other : TypedTask) → IsTaskOf d p one → IsTaskOf d p other → one ≡ other }
+{}
+
+/// Where no fault stands there is a task.
+pub fn faultless_files_have_a_task()
+    ensures { (d : Domain) (p : Problem) → faults_of d p ≡ [] → (task : TypedTask) × IsTaskOf d p task }
+{}
+
+/// The task of two files of the grammar is valid.
+pub fn task_is_valid()
+    ensures { (d : Domain) (p : Problem) (task : TypedTask) → IsWritten d p → IsTaskOf d p task → IsValidTask task }
+{}

@@ -1,0 +1,70 @@
+ghost use Rattle.std.specs.Prelude.{◌≡◌, IfOk};
+ghost use Rattle.std.specs.List.{flat_map};
+ghost use Rattle.mf_types.specs.Faults.{after};
+ghost use Rattle.mf_types.specs.Quantified as spec;
+ghost use Rattle.mf_types.specs.Sites.{site_of};
+
+use crate::least::{Fault, FaultKind};
+use crate::listing::{beyond_behind, repeats_alone};
+use crate::site::{Site, at_word};
+use crate::words::item_words;
+use mf_model::{Typed, Word};
+use std::alloc::{AllocError, Global};
+
+/// The most variables in scope: parameters, and variables of quantifiers, hidden ones too.
+pub(crate) const MOST_VARIABLES: usize = 64;
+
+/// The faults in the list of a quantifier's variables, where `outer` are in scope before.
+#[tactic(auto, using(crate::proofs::After::after_append))]
+pub(crate) fn variables(
+    alloc: Global,
+    site: &Site<'_>,
+    best: Option<Fault>,
+    outer: usize,
+    items: &[Typed],
+) -> Result<Option<Fault>, AllocError>
+    ensures { IfOk result (λ b. b ≡ after best
+        (spec.variable_faults (site_of site.now) outer items.now)) }
+{
+    let words = item_words(alloc, items)?;
+    let best = repeats_alone(alloc, best, site.file, words.as_slice())?;
+    let best = beyond_behind(best, site.file, MOST_VARIABLES, outer, words.as_slice());
+    Ok(item_types(site, best, items))
+}
+
+/// The faults of the types of items.
+#[tactic(auto, using(crate::proofs::After::after_append))]
+pub(crate) fn item_types(site: &Site<'_>, mut best: Option<Fault>, items: &[Typed]) -> Option<Fault>
+    ensures { result ≡ after best (flat_map (spec.item_faults (site_of site.now)) items.now) }
+{
+    for item in items {
+        best = types(site, best, item);
+    }
+    best
+}
+
+/// The faults of the types of an item.
+fn types(site: &Site<'_>, best: Option<Fault>, item: &Typed) -> Option<Fault>
+    ensures { result ≡ after best (spec.item_faults (site_of site.now) item.now) }
+{
+    type_words(site, best, item.types.as_slice())
+}
+
+#[tactic(auto, using(crate::proofs::After::after_append))]
+fn type_words(site: &Site<'_>, mut best: Option<Fault>, words: &[Word]) -> Option<Fault>
+    ensures { result ≡ after best (flat_map (spec.type_word_faults (site_of site.now)) words.now) }
+{
+    for word in words {
+        best = type_word(site, best, word);
+    }
+    best
+}
+
+fn type_word(site: &Site<'_>, best: Option<Fault>, word: &Word) -> Option<Fault>
+    ensures { result ≡ after best (spec.type_word_faults (site_of site.now) word.now) }
+{
+    match site.tables.find_type(word.text.as_slice()) {
+        Some(_) => best,
+        None => at_word(site, best, FaultKind::UnknownName, word),
+    }
+}
