@@ -4,8 +4,8 @@ ghost use Rattle.std.specs.Prelude.{◌≡◌, length, map, slice_index_or};
 
 use mf_model::{Object, TypeName, TypedTask};
 
-// Whether the object has one of the types.
-pub(crate) fn has_some_type(task: &TypedTask, object: &Object, types: &[u16]) -> bool
+/// Whether the object has one of the types: a declared one of its own is it, or descends from it.
+pub fn has_some_type(task: &TypedTask, object: &Object, types: &[u16]) -> bool
     ensures { result ≡ meets types.now (kinds_of_object task.now object.now) }
 {
     for wanted in types {

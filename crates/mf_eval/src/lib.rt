@@ -25,6 +25,10 @@ pub use applying::apply;
 pub use condition::holds;
 pub use expression::value;
 pub use fault::{ApplyFault, Memory, Why};
+pub use kinds::has_some_type;
 pub use mf_fraction::Wide;
 pub use mf_model::Truth;
 pub use start::start_state;
+
+#[cfg(test)]
+mod tests;
