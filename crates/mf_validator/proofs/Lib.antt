@@ -1,0 +1,9 @@
+pub mod InstanceLemmas
+pub mod VerdictLemmas
+pub mod Applying
+pub mod Exactness
+pub mod PieceLemmas
+pub mod ArgumentLemmas
+pub mod Tables
+pub mod LineLemmas
+pub mod ReadInstances

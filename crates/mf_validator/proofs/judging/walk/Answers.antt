@@ -1,0 +1,39 @@
+use Rattle.std.proofs.Common.{◌≡◌, sym, ◌∙◌, subst, ap, ◌+◌, ◌<◌, List, Result, drop, length, arith}
+use Rattle.std.specs.List.{Contains}
+use Rattle.std.proofs.lemmas.List.Elements.{All-get_or}
+use Rattle.mf_model.specs.declared.state.Instance.{Instance}
+use Rattle.mf_model.specs.Application.{instances_of}
+use Rattle.mf_eval.specs.Outcome.{outcome_of}
+use Rattle.mf_validator.specs.declared.fault.JudgeFault.{JudgeFault}
+use Rattle.mf_validator.specs.declared.verdict.Verdict.{Verdict}
+use Rattle.mf_validator.specs.Verdicts.{Gives, refused_verdict, verdict_from}
+use Rattle.mf_validator.proofs.InstanceLemmas.{binds_few}
+use Rattle.mf_validator.proofs.VerdictLemmas.{step-at, step_done, step_refused}
+use Rattle.mf_validator.proofs.judging.walk.Goals as goal
+
+pub apply-requires-clause-variables : goal.apply-requires-clause-variables
+apply-requires-clause-variables c =
+    let task = c.args.task.now in
+    let step = c.index-plan-done.result in
+    let within : Contains (instances_of task) step = subst (λ (s : Instance). Contains (instances_of task) s) (sym c.index-plan-done.is) (All-get_or (Contains (instances_of task)) c.args.plan.now c.loop-done.done step c.loop-done-test.true c.requires.steps) in
+    binds_few task step c.requires.variables within
+
+pub returns-in-Err : goal.returns-in-Err
+returns-in-Err c =
+    let task = c.args.task.now in
+    let plan = c.args.plan.now in
+    let i = c.loop-done.done in
+    let step = c.index-plan-done.result in
+    let judged = step-at task plan i c.loop-done.state step c.loop-done-test.true c.index-plan-done.is in
+    let refused = step_refused (i + 1) (verdict_from task (drop (i + 1) plan) (i + 1)) (outcome_of task c.loop-done.state step) c.in-Err.fault c.in-Err.ensures in
+    rw c.refused.ensures (subst (λ (v : Result Verdict JudgeFault). Gives v (refused_verdict (i + 1) c.in-Err.fault)) (sym judged ∙ c.loop-done.invariant) refused)
+
+pub loop-done-preserved : goal.loop-done-preserved
+loop-done-preserved c =
+    let task = c.args.task.now in
+    let plan = c.args.plan.now in
+    let i = c.loop-done.done in
+    let step = c.index-plan-done.result in
+    sym (step_done (i + 1) (verdict_from task (drop (i + 1) plan) (i + 1)) (outcome_of task c.loop-done.state step) c.in-Ok.next c.in-Ok.ensures)
+    ∙ sym (step-at task plan i c.loop-done.state step c.loop-done-test.true c.index-plan-done.is)
+    ∙ c.loop-done.invariant

@@ -1,0 +1,22 @@
+//! The validator: it reads a plan file and judges a plan by the meaning of the task.
+#![tactic(auto)]
+
+mod directory;
+mod fault;
+mod judging;
+pub mod laws;
+mod line;
+mod piece;
+mod reading;
+mod step;
+mod verdict;
+mod word;
+
+pub use fault::{JudgeFault, PlanFault};
+pub use judging::judge;
+pub use mf_eval::Why;
+pub use reading::read_plan;
+pub use verdict::{Reported, Verdict};
+
+#[cfg(test)]
+mod tests;
