@@ -1,0 +1,81 @@
+-- What one file says: it has one value at most, and none where it is refused.
+use Rattle.std.proofs.Common.{◌≡◌, ℕ, inl, inr, Err, List, [], refl, sym, ◌∙◌, ap, subst}
+use Rattle.mf_model.specs.declared.token.Token.{Token}
+use Rattle.mf_model.specs.declared.tree.Tree.{Tree}
+use Rattle.mf_model.specs.declared.form.Domain.{Domain}
+use Rattle.mf_model.specs.declared.form.Problem.{Problem}
+use Rattle.mf_model.specs.Tokens.{IsTokens}
+use Rattle.mf_model.specs.Trees.{IsTreeOf}
+use Rattle.mf_lex.specs.declared.fault.LexFault.{LexFault}
+use Rattle.mf_lex.specs.declared.fault.LexFault.TheVariants as lex
+use Rattle.mf_lex.specs.declared.fault.TreeFault.{TreeFault}
+use Rattle.mf_lex.specs.declared.fault.TreeFault.TheVariants as tree
+use Rattle.mf_lex.specs.Reading.{IsLexFault, NoTokens}
+use Rattle.mf_lex.specs.Answers.{IsTreeFault, NoTree}
+use Rattle.mf_lex.proofs.Whole.{unique_tree}
+use Rattle.mf_reader.specs.declared.fault.FormFault.{FormFault}
+use Rattle.mf_reader.specs.declared.fault.FormFault.TheVariants as form
+use Rattle.mf_reader.specs.Said.{Said, FirstIs, Refuses}
+use Rattle.mf_reader.specs.Domains.{domain_of}
+use Rattle.mf_reader.specs.Problems.{problem_of}
+use Rattle.mf_input.specs.declared.refusal.FileFault.{FileFault}
+use Rattle.mf_input.specs.declared.refusal.FileFault.TheVariants as file
+use Rattle.mf_input.specs.Files.{Says, IsFileOf, IsDomain, IsProblem}
+use Rattle.mf_input.specs.Kinds.{lex_refusal, tree_refusal, form_refusal}
+use Rattle.mf_input.specs.Refusals.{ReadsTree, ReadsFile, RefusesFile, domain_form_faults, problem_form_faults}
+
+-- the tree
+
+pub tokens_refused : (source : List ℕ) (fault : LexFault) → IsLexFault source fault → NoTokens source fault → ReadsTree source (Err (lex_refusal fault))
+tokens_refused source (lex.BadByte at) is none = (is, λ tree has. none _ has.tokens)
+tokens_refused source (lex.TooLong at) is none = (is, λ tree has. none _ has.tokens)
+tokens_refused source lex.Memory is none = tt
+
+pub tree_refused : (source : List ℕ) (tokens : List Token) (fault : TreeFault) → IsTokens source tokens → IsTreeFault source tokens fault → NoTree source fault →
+    ReadsTree source (Err (tree_refusal fault))
+tree_refused source tokens (tree.Unbalanced at) are is none = ((tokens, are, is), none)
+tree_refused source tokens (tree.TooDeep at) are is none = ((tokens, are, is), none)
+tree_refused source tokens tree.Memory are is none = tt
+
+-- the form
+
+abbrev SaidBy : {A : Type 0} → (Tree → Said A) → A → Tree → Type 0
+SaidBy reading value tree = Says (reading tree) value
+
+pub only_value : {A : Type 0} (reading : Tree → Said A) (source : List ℕ) (left right : A) →
+    IsFileOf (SaidBy reading) source left → IsFileOf (SaidBy reading) source right → left ≡ right
+only_value reading source left right one other =
+    let same : one.tree ≡ other.tree = unique_tree source one.tree other.tree one.is_tree other.is_tree in
+    sym one.form.1 ∙ (ap (λ t. (reading t).value) same ∙ other.form.1)
+
+no_value : {A : Type 0} (reading : Tree → Said A) (source : List ℕ) (tree : Tree) (fault : FormFault) → IsTreeOf source tree → FirstIs fault (reading tree).faults →
+    (value : A) → IsFileOf (SaidBy reading) source value → ⊥
+no_value reading source tree fault is_tree first value has =
+    let same : has.tree ≡ tree = unique_tree source has.tree tree has.is_tree is_tree in
+    let empty : (reading tree).faults ≡ [] = subst (λ t. (reading t).faults ≡ []) same has.form.0 in
+    subst (FirstIs fault) empty first
+
+pub form_refused : {A : Type 0} (reading : Tree → Said A) (source : List ℕ) (tree : Tree) (fault : FormFault) → IsTreeOf source tree → Refuses fault (reading tree).faults →
+    ReadsFile (SaidBy reading) (λ t. (reading t).faults) source (Err (form_refusal fault))
+form_refused reading source tree (form.UnknownRequirement span) is_tree first = record {
+  refusal = inr (inl (refl, record { tree = tree; span = span; is_tree = is_tree; first = first; place = refl }));
+  none = no_value reading source tree (form.UnknownRequirement span) is_tree first;
+}
+form_refused reading source tree (form.LeftOut span) is_tree first = record {
+  refusal = inr (inr (inl (refl, record { tree = tree; span = span; is_tree = is_tree; first = first; place = refl })));
+  none = no_value reading source tree (form.LeftOut span) is_tree first;
+}
+form_refused reading source tree (form.BadForm span) is_tree first = record {
+  refusal = inr (inr (inr (refl, record { tree = tree; span = span; is_tree = is_tree; first = first; place = refl })));
+  none = no_value reading source tree (form.BadForm span) is_tree first;
+}
+form_refused reading source tree form.Memory is_tree first = tt
+
+-- a file without a tree is refused for its tokens or its brackets
+pub tree_lost : {A : Type 0} (Form : A → Tree → Type 0) (faults : Tree → List FormFault) (source : List ℕ) (fault : FileFault) →
+    ReadsTree source (Err fault) → ReadsFile Form faults source (Err fault)
+tree_lost Form faults source (file.Refused kind at) refuses = record {
+  refusal = inl refuses.0;
+  none = λ value has. refuses.1 has.tree has.is_tree;
+}
+tree_lost Form faults source file.Memory refuses = tt

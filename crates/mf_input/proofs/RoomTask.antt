@@ -1,0 +1,78 @@
+-- Each task of two files leaves room for its variables.
+use Rattle.std.proofs.Common.{◌≡◌, ℕ, suc, ◌+◌, ◌≤◌, max, true, Option, Some, List, [], ◌∷◌, length, refl, subst, sym, ap, ◌∙◌, All, arith}
+use Rattle.std.proofs.lemmas.List.{length-map}
+use Rattle.mf_model.specs.declared.form.RawAction.{RawAction}
+use Rattle.mf_model.specs.declared.form.Domain.{Domain}
+use Rattle.mf_model.specs.declared.form.Problem.{Problem}
+use Rattle.mf_model.specs.declared.task.Object.{Object}
+use Rattle.mf_model.specs.declared.task.Action.{Action}
+use Rattle.mf_model.specs.declared.task.TypedTask.{TypedTask}
+use Rattle.mf_model.specs.Options.{◌>>=◌, each}
+use Rattle.mf_types.specs.Names.{Declared, declared_by, item_types}
+use Rattle.mf_types.specs.Typing.{inside, types_in, cond_of, effect_of}
+use Rattle.mf_types.specs.Tasks.{paired, object_named, action_of, IsTaskOf}
+use Rattle.mf_types.proofs.Given as given
+use Rattle.mf_types.proofs.Given.{IfGiven, Read, taken, then_given, made_given, each_given, each_all}
+use Rattle.mf_types.proofs.TaskReadings.{at_most}
+use Rattle.mf_types.proofs.ValidConditions as inside
+use Rattle.mf_types.proofs.ValidConditions.{inside_valid}
+use Rattle.mf_eval.specs.Scope.{scope_of, effect_scope_of, action_scope_of}
+use Rattle.mf_input.specs.Files.{IsTaskOfFiles}
+use Rattle.mf_input.specs.Limits.{IsWithinLimits}
+use Rattle.mf_input.proofs.RoomConditions.{cond_fits}
+use Rattle.mf_input.proofs.RoomEffects.{effect_fits}
+
+-- counts
+
+pairs_few : {A B C : Type 0} (f : A → B → C) (xs : List A) (ys : List B) → length (paired f xs ys) ≤ length xs
+pairs_few f [] ys = omega arith
+pairs_few f (x ∷ xs) [] = omega arith
+pairs_few f (x ∷ xs) (y ∷ ys) = let rest = pairs_few f xs ys in omega (arith, rest)
+
+each_count : {A B : Type 0} (f : A → Option B) (xs : List A) (ys : List B) → each f xs ≡ Some ys → length ys ≡ length xs
+each_count f xs ys e = (taken (Read (λ _. true) xs) (each f xs) ys e (each_given (λ _. true) f (λ x. given.given (λ _. true ≡ true) (f x) (λ _ _. refl)) xs)).count
+
+-- actions
+
+abbrev Fits : Action → Type 0
+Fits action = length action.parameters + action_scope_of (Some action) ≤ 64
+
+recounted : (n m left right : ℕ) → n ≡ m → n + left ≤ 64 → n + right ≤ 64 → m + max left right ≤ 64
+recounted n m left right e h k = omega (arith, e, h, k)
+
+action_fits : (declared : Declared) (raw : RawAction) → IfGiven Fits (action_of declared raw)
+unfolding action_of
+action_fits declared raw =
+    let types = types_in declared raw.parameters in
+    then_given (inside.HasRoom [] raw.parameters) Fits (inside [] raw.parameters) _ (inside_valid [] raw.parameters) (λ binders has.
+    let count = has.count in
+    let limit = at_most _ _ has.room in
+    let types_are : length types ≡ length raw.parameters = length-map raw.parameters (item_types declared.types) in
+    let room : length binders ≤ 64 = omega (arith, count, limit) in
+    let same : length binders ≡ length types = omega (arith, count, types_are) in
+    then_given (λ a. length binders + scope_of a ≤ 64) Fits (cond_of declared raw.condition binders) _ (cond_fits declared raw.condition binders room) (λ condition h.
+    made_given (λ a. length binders + effect_scope_of a ≤ 64) Fits (λ effect. record { name = raw.word.text; parameters = types; condition = condition; effect = effect }) (effect_of declared raw.effect binders)
+    (effect_fits declared raw.effect binders room) (λ effect k. recounted (length binders) (length types) (scope_of condition) (effect_scope_of effect) same h k)))
+
+-- the task
+
+without_parameters : (scope : ℕ) → 0 + scope ≤ 64 → scope ≤ 64
+without_parameters scope h = omega (arith, h)
+
+task_fits : (d : Domain) (p : Problem) (task : TypedTask) → IsTaskOf d p task → IsWithinLimits task
+task_fits d p task is =
+    let declared = declared_by d p in
+    let object_limit = is.few.objects in
+    let action_limit = is.few_actions in
+    let objects_few : length (paired object_named declared.objects declared.object_types) ≤ length declared.objects = pairs_few object_named declared.objects declared.object_types in
+    let objects_are : length task.objects ≡ length (paired object_named declared.objects declared.object_types) = ap length is.objects in
+    let action_count = each_count (action_of declared) d.actions task.actions is.actions in
+    record {
+      objects = omega (arith, objects_are, objects_few, object_limit);
+      actions = omega (arith, action_count, action_limit);
+      variables = taken (All Fits) (each (action_of declared) d.actions) task.actions is.actions (each_all Fits (action_of declared) (action_fits declared) d.actions);
+      goal = without_parameters (scope_of task.goal) (taken (λ a. 0 + scope_of a ≤ 64) (cond_of declared p.goal []) task.goal is.goal (cond_fits declared p.goal [] (omega arith)));
+    }
+
+pub files_fit : (domain problem : List ℕ) (task : TypedTask) → IsTaskOfFiles domain problem task → IsWithinLimits task
+files_fit domain problem task is = task_fits is.domain is.problem task is.task_of

@@ -1,0 +1,4 @@
+pub mod Files
+pub mod Kinds
+pub mod Limits
+pub mod Refusals
