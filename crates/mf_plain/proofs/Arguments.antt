@@ -1,17 +1,18 @@
 -- The argument lists of a plain task: every parameter takes every object.
-use Rattle.std.proofs.Common.{◌≡◌, ℕ, zero, suc, ◌+◌, ◌<◌, ◌≤◌, ◌++◌, List, [], ◌∷◌, All, length, get_or, drop, refl, sym, ap, ◌∙◌, subst, arith, add-zero, add-one}
+use Rattle.std.proofs.Common.{◌≡◌, Bool, true, false, if◌then◌else◌, ℕ, zero, suc, ◌+◌, ◌<◌, ◌≤◌, ◌++◌, List, [], ◌∷◌, All, length, get_or, drop, refl, sym, ap, ◌∙◌, subst, arith, add-zero, add-one}
 use Rattle.std.specs.List.{flat_map}
 use Rattle.std.proofs.lemmas.List.{append-nil, append_assoc, map-id, length-map, map_push, drop_all}
 use Rattle.std.proofs.lemmas.List.Concat.{flat_map-append, flat_map_single}
 use Rattle.std.proofs.lemmas.List.Folds.{flat_map-map}
-use Rattle.std.proofs.lemmas.List.Elements.{All-head, All-tail, All-map, All-get_or, All-weaker}
+use Rattle.std.proofs.lemmas.List.Elements.{All-head, All-tail, All-map, All-get_or}
 use Rattle.mf_model.specs.declared.task.Action.{Action}
 use Rattle.mf_model.specs.declared.task.Object.{Object}
 use Rattle.mf_model.specs.declared.task.TypedTask.{TypedTask}
 use Rattle.mf_model.specs.declared.state.Instance.{Instance}
 use Rattle.mf_model.specs.Application.{instances_from}
-use Rattle.mf_model.specs.Objects.{ancestors, bindings, having, kinds_of, parents_of}
-use Rattle.mf_model.specs.Plain.{IsObjectType, IsPlainTask, IsPlainAction}
+use Rattle.mf_model.specs.Objects.{ancestors, bindings, having, kinds_of, meets, parents_of}
+use Rattle.mf_model.specs.Plain.{IsObjectType, IsPlainAction}
+use Rattle.mf_plain.specs.PlainTask.{IsPlainTask}
 use Rattle.mf_plain.specs.Listing.{numbers_from, with_next, extended, of_action}
 use Rattle.mf_plain.proofs.Placing.{drop_at_read}
 
@@ -28,18 +29,22 @@ numbers_push n = let e : 0 + n ≡ n = omega arith in rw (add-one) (numbers_last
 pub next_push : (front : List ℕ) (object : ℕ) → with_next (numbers_from 0 (object + 1)) front ≡ with_next (numbers_from 0 object) front ++ (front ++ object ∷ []) ∷ []
 next_push front object = ap (λ os. with_next os front) (numbers_push object) ∙ map_push (λ o. front ++ o ∷ []) (numbers_from 0 object) object
 
--- each object of a plain task has the one type
-kinds_plain : (task : TypedTask) → IsPlainTask task → All IsObjectType (kinds_of task)
-kinds_plain task plain =
-    All-map IsObjectType (λ (o : Object). flat_map (ancestors (parents_of task) (length task.types)) o.types) task.objects
-    (All-weaker (λ (o : Object). IsObjectType o.types) (λ (o : Object). IsObjectType (flat_map (ancestors (parents_of task) (length task.types)) o.types)) kind task.objects plain.object_types)
-  where
-    kind : (o : Object) → IsObjectType o.types → IsObjectType (flat_map (ancestors (parents_of task) (length task.types)) o.types)
-    kind o e = rw (e, plain.types) refl
+-- the types of an object have the type `object` among them
+abbrev HasObject : List ℕ → Type 0
+HasObject kinds = meets (0 ∷ []) kinds ≡ true
 
-having_all : (kinds : List (List ℕ)) (n : ℕ) → All IsObjectType kinds → having (0 ∷ []) n kinds ≡ numbers_from n (length kinds)
+kinds_plain : (task : TypedTask) → IsPlainTask task → All HasObject (kinds_of task)
+kinds_plain task plain = All-map HasObject (λ (o : Object). flat_map (ancestors (parents_of task) (length task.types)) o.types) task.objects plain.objects
+
+one_more : (b : Bool) (n : ℕ) (rest : List ℕ) → b ≡ true → (if b then n ∷ rest else rest) ≡ n ∷ rest
+one_more true n rest e = refl
+one_more false n rest e = let h : ⊥ = cc in absurd h
+
+having_all : (kinds : List (List ℕ)) (n : ℕ) → All HasObject kinds → having (0 ∷ []) n kinds ≡ numbers_from n (length kinds)
 having_all [] n all = refl
-having_all (k ∷ kinds) n all = rw (All-head IsObjectType k kinds all) (ap (λ r. n ∷ r) (having_all kinds (n + 1) (All-tail IsObjectType k kinds all)))
+having_all (k ∷ kinds) n all =
+    one_more (meets (0 ∷ []) k) n (having (0 ∷ []) (n + 1) kinds) (All-head HasObject k kinds all)
+    ∙ ap (λ r. n ∷ r) (having_all kinds (n + 1) (All-tail HasObject k kinds all))
 
 having_plain : (task : TypedTask) (types : List ℕ) → IsPlainTask task → IsObjectType types → having types 0 (kinds_of task) ≡ numbers_from 0 (length task.objects)
 having_plain task types plain e = rw e (having_all (kinds_of task) 0 (kinds_plain task plain) ∙ ap (numbers_from 0) (length-map task.objects (λ o. flat_map (ancestors (parents_of task) (length task.types)) o.types)))

@@ -6,7 +6,7 @@ use Rattle.mf_model.specs.declared.task.TypedTask.{TypedTask}
 use Rattle.mf_model.specs.declared.state.Instance.{Instance}
 use Rattle.mf_model.specs.declared.state.PlainState.{PlainState}
 use Rattle.mf_model.specs.Application.{instances_of, is_applicable, next_state}
-use Rattle.mf_model.specs.Plain.{IsPlainTask}
+use Rattle.mf_plain.specs.PlainTask.{IsPlainTask}
 use Rattle.mf_model.specs.Plans.{is_goal, IsValidFrom}
 use Rattle.mf_search.specs.Space.{Child}
 use Rattle.mf_search.specs.Answers.{Walk, LeadsToGoal}

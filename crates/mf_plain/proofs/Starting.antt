@@ -5,7 +5,7 @@ use Rattle.mf_model.specs.declared.task.Atom.{Atom}
 use Rattle.mf_model.specs.declared.task.Valued.{Valued}
 use Rattle.mf_model.specs.declared.task.TypedTask.{TypedTask}
 use Rattle.mf_model.specs.declared.state.PlainState.{PlainState}
-use Rattle.mf_model.specs.Plain.{IsPlainTask}
+use Rattle.mf_plain.specs.PlainTask.{IsPlainTask}
 use Rattle.mf_model.specs.States.{start_of, with_atom}
 use Rattle.mf_search.specs.declared.entry.Entry.{Entry}
 use Rattle.mf_search.specs.declared.maker.Maker.{Maker}

@@ -7,7 +7,7 @@ use Rattle.mf_model.specs.declared.task.TypedTask.{TypedTask}
 use Rattle.mf_model.specs.declared.state.Instance.{Instance}
 use Rattle.mf_model.specs.declared.state.PlainState.{PlainState}
 use Rattle.mf_model.specs.Application.{instances_of}
-use Rattle.mf_model.specs.Plain.{IsPlainTask}
+use Rattle.mf_plain.specs.PlainTask.{IsPlainTask}
 use Rattle.mf_model.specs.Plans.{IsPlan}
 use Rattle.mf_model.specs.States.{start_of}
 use Rattle.mf_search.specs.declared.maker.Maker.{Maker}

@@ -6,7 +6,7 @@ use Rattle.mf_model.specs.declared.task.TypedTask.{TypedTask}
 use Rattle.mf_model.specs.declared.state.PlainState.{PlainState}
 use Rattle.mf_model.specs.Meaning.{is_yes}
 use Rattle.mf_model.specs.Objects.{kinds_of}
-use Rattle.mf_model.specs.Plain.{IsPlainTask}
+use Rattle.mf_plain.specs.PlainTask.{IsPlainTask}
 use Rattle.mf_model.specs.Plans.{is_goal}
 use Rattle.mf_model.specs.States.{look_of}
 use Rattle.mf_plain.specs.Conjunctions.{is_conjunction, is_true, needs_of}

@@ -1,6 +1,6 @@
 //! What is known of every search of a task.
 ghost use Rattle.std.specs.Prelude.{◌≡◌, ◌<◌, ℕ, List, length};
-ghost use Rattle.mf_model.specs.Plain.{IsPlainTask};
+ghost use Rattle.mf_plain.specs.PlainTask.{IsPlainTask};
 ghost use Rattle.mf_model.specs.Plans.{IsPlan};
 ghost use Rattle.mf_model.specs.declared.state.Instance.{Instance};
 ghost use Rattle.mf_model.specs.declared.task.TypedTask.{TypedTask};

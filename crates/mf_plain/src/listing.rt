@@ -1,7 +1,8 @@
 ghost use Rattle.std.specs.Prelude.{◌≡◌, [], ◌++◌, ◌<◌, ◌^◌, length, IfOk, OnOk, All};
 ghost use Rattle.mf_model.specs.Application.{instances_of};
 ghost use Rattle.mf_model.specs.Objects.{kinds_of, bindings};
-ghost use Rattle.mf_model.specs.Plain.{IsObjectType, IsPlainTask};
+ghost use Rattle.mf_model.specs.Plain.{IsObjectType};
+ghost use Rattle.mf_plain.specs.PlainTask.{IsPlainTask};
 ghost use Rattle.mf_plain.specs.Listing.{numbers_from, with_next, extended, of_action};
 
 use crate::Memory;

@@ -1,6 +1,6 @@
 ghost use Rattle.std.specs.Prelude.{◌≡◌, ◌<◌, ℕ, [], ◌∷◌, ◌++◌, false, true, List, map, vec_len, slice_set, OnOk};
 ghost use Rattle.std.specs.List.{list_any};
-ghost use Rattle.mf_model.specs.Plain.{IsPlainTask};
+ghost use Rattle.mf_plain.specs.PlainTask.{IsPlainTask};
 ghost use Rattle.mf_model.specs.declared.state.PlainState.{PlainState};
 ghost use Rattle.mf_search.specs.World.{Opened, open_child, open_all};
 ghost use Rattle.mf_search.specs.declared.entry.Entry.TheVariants.{Take};

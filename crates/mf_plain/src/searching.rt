@@ -1,6 +1,6 @@
 ghost use Rattle.std.specs.Prelude.{◌≡◌, ◌≤◌, ◌<◌, ◌^◌, ℕ, [], ◌∷◌, ◌++◌, List, length, get_or, IfOk, OnOk};
 ghost use Rattle.mf_model.specs.Application.{instances_of};
-ghost use Rattle.mf_model.specs.Plain.{IsPlainTask};
+ghost use Rattle.mf_plain.specs.PlainTask.{IsPlainTask};
 ghost use Rattle.mf_model.specs.declared.state.PlainState.{PlainState};
 ghost use Rattle.mf_model.specs.declared.task.TypedTask.{TypedTask};
 ghost use Rattle.mf_search.specs.declared.entry.Entry.TheVariants.{Done};

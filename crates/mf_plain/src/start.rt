@@ -1,6 +1,6 @@
 ghost use Rattle.std.specs.Prelude.{◌≡◌, ℕ, [], IfOk};
 ghost use Rattle.std.specs.List.{fold};
-ghost use Rattle.mf_model.specs.Plain.{IsPlainTask};
+ghost use Rattle.mf_plain.specs.PlainTask.{IsPlainTask};
 ghost use Rattle.mf_model.specs.States.{with_atom};
 ghost use Rattle.mf_plain.specs.Conjunctions.{needs_of};
 ghost use Rattle.mf_plain.specs.UnderWay.{IsUnderWay};

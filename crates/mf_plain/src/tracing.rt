@@ -1,5 +1,5 @@
 ghost use Rattle.std.specs.Prelude.{◌≡◌, ◌<◌, ℕ, All, List, Some, map, reverse, length, slice_get, IfOk};
-ghost use Rattle.mf_model.specs.Plain.{IsPlainTask};
+ghost use Rattle.mf_plain.specs.PlainTask.{IsPlainTask};
 ghost use Rattle.mf_model.specs.declared.task.TypedTask.{TypedTask};
 ghost use Rattle.mf_search.specs.declared.status.Status.TheVariants.{Plan};
 ghost use Rattle.mf_search.specs.Answers.{plan_to};

@@ -1,0 +1,48 @@
+-- Whether a task is plain, tested part by part.
+use Rattle.std.specs.Prelude.{ℕ, Bool, true, false, ◌&&◌, ◌==◌, nat_le, List, [], ◌∷◌, length, Option, Some, None}
+use Rattle.std.specs.List.{list_all}
+use Rattle.mf_model.specs.declared.task.Symbol.{Symbol}
+use Rattle.mf_model.specs.declared.task.Action.{Action}
+use Rattle.mf_model.specs.declared.task.TypedTask.{TypedTask}
+use Rattle.mf_model.specs.Plain.{is_plain_cond, is_plain_effect, is_plain_fact}
+use Rattle.mf_plain.specs.PlainTask.{is_object}
+
+abbrev pub is_nil : {A : Type 0} → List A → Bool
+is_nil [] = true
+is_nil (x ∷ xs) = false
+
+abbrev pub is_absent : {A : Type 0} → Option A → Bool
+is_absent None = true
+is_absent (Some x) = false
+
+abbrev pub is_object_type : List ℕ → Bool
+is_object_type [] = false
+is_object_type (n ∷ []) = n == 0
+is_object_type (n ∷ m ∷ ns) = false
+
+abbrev pub are_plain_parameters : List (List ℕ) → Bool
+are_plain_parameters parameters = list_all is_object_type parameters && nat_le (length parameters) 32
+
+abbrev pub is_plain_symbol : Symbol → Bool
+is_plain_symbol symbol = are_plain_parameters symbol.parameters
+
+abbrev pub is_plain_action : List Symbol → (objects : ℕ) → Action → Bool
+is_plain_action predicates objects action =
+    are_plain_parameters action.parameters
+    && (is_plain_cond predicates (length action.parameters) objects action.condition && is_plain_effect predicates (length action.parameters) objects action.effect)
+
+abbrev pub are_plain_names : TypedTask → Bool
+are_plain_names task = list_all (is_object task) task.objects && (list_all is_plain_symbol task.predicates && is_nil task.functions)
+
+abbrev pub is_within_limits : TypedTask → Bool
+is_within_limits task = nat_le (length task.objects) 65535 && (nat_le (length task.predicates) 10000 && nat_le (length task.actions) 1000)
+
+abbrev pub is_plain_start : TypedTask → Bool
+is_plain_start task = list_all (is_plain_fact task.predicates (length task.objects)) task.atoms && is_nil task.values
+
+abbrev pub is_plain_end : TypedTask → Bool
+is_plain_end task = is_plain_cond task.predicates 0 (length task.objects) task.goal && is_absent task.metric
+
+abbrev pub is_plain_task : TypedTask → Bool
+is_plain_task task =
+    are_plain_names task && (is_within_limits task && (list_all (is_plain_action task.predicates (length task.objects)) task.actions && (is_plain_start task && is_plain_end task)))
