@@ -11,13 +11,17 @@ use Rattle.mf_model.specs.declared.state.Instance.{Instance}
 use Rattle.mf_plain.specs.declared.history.History.{History}
 use Rattle.mf_top.proofs.AnswerLemmas.{no_plan_asked}
 use Rattle.mf_top.specs.declared.request.Request.{Request}
-use Rattle.mf_top.specs.declared.request.Request.TheVariants.{Plan}
+use Rattle.mf_top.specs.declared.request.Request.TheVariants.{Plan, Validate}
 use Rattle.mf_top.specs.declared.outcome.Outcome.{Outcome}
-use Rattle.mf_top.specs.declared.outcome.Outcome.TheVariants.{WordsRefused, CannotRead, TooLong, NotBuilt, PlanFound, NoPlan, BudgetReached, OutOfMemory}
+use Rattle.mf_top.specs.declared.outcome.Answer.{Answer}
+use Rattle.mf_top.specs.declared.outcome.Answer.TheVariants.{PlanFound, NoPlan, BudgetReached}
+use Rattle.mf_top.specs.declared.outcome.Stop.TheVariants.{NotBuilt}
+use Rattle.mf_top.specs.declared.outcome.Outcome.TheVariants.{WordsRefused, Stopped, Answered, Judged}
 use Rattle.mf_top.specs.Calls.{Asks, HasNoPlan, BeginsNoPlan}
 use Rattle.mf_top.specs.Delivery.{WritesBoth}
-use Rattle.mf_top.specs.Outcome.{Ends, Runs}
-use Rattle.mf_top.specs.Texts.{status_of, out_text, err_text, plan_text}
+use Rattle.mf_top.specs.declared.outcome.Stop.{Stop}
+use Rattle.mf_top.specs.Outcome.{IsAnswerOf, Ends, EndsSearch, EndsTask, Runs}
+use Rattle.mf_top.specs.Texts.{status_of, answer_status, answer_text, out_text, err_text, plan_text}
 
 -- what stands on out is a front part of the text for it
 front_of_out : (outcome : Outcome) (ob oa eb ea : Option (List ℕ)) (delivered : Result Unit PutFault) →
@@ -52,20 +56,35 @@ plan_begins task [] m n some same = let e = first_byte 59 110 (drop 1 (plan_text
 plan_begins task (step ∷ steps) m n some same =
     let e = first_byte 40 110 (drop 1 (plan_text task (step ∷ steps))) (drop 1 (codes "no plan\n")) m n some same in omega arith
 
-begun_by : (held : List ℕ → Option (List ℕ)) (request : Option Request) (loads : List Loading) (history : History) (outcome : Outcome) (m n : ℕ) →
-    Ends held request loads history outcome → 0 < n → take m (out_text outcome) ≡ take n (codes "no plan\n") → status_of outcome ≡ 1
-begun_by held request loads history NoPlan m n ends some same = refl
-begun_by held request loads history (BudgetReached b) m n ends some same =
-    absurd (let e = first_byte 98 110 (drop 1 (out_text (BudgetReached b))) (drop 1 (codes "no plan\n")) m n some same in omega arith)
-begun_by held None loads history (PlanFound text) m n ends some same = absurd ends.2
-begun_by held (Some (Plan d p b)) loads history (PlanFound text) m n (inl (empty, ends)) some same = absurd ends
-begun_by held (Some (Plan d p b)) loads history (PlanFound text) m n (inr by_answer) some same =
-    absurd (plan_begins by_answer.task by_answer.ends.steps m n some (ap (take m) (sym by_answer.ends.text_is) ∙ same))
-begun_by held request loads history WordsRefused m n ends some same = absurd (no_byte 110 (drop 1 (codes "no plan\n")) m n some same)
-begun_by held request loads history (CannotRead name) m n ends some same = absurd (no_byte 110 (drop 1 (codes "no plan\n")) m n some same)
-begun_by held request loads history (TooLong name) m n ends some same = absurd (no_byte 110 (drop 1 (codes "no plan\n")) m n some same)
-begun_by held request loads history (NotBuilt name) m n ends some same = absurd (no_byte 110 (drop 1 (codes "no plan\n")) m n some same)
-begun_by held request loads history OutOfMemory m n ends some same = absurd (no_byte 110 (drop 1 (codes "no plan\n")) m n some same)
+answer_begun : (task : TypedTask) (budget : ℕ) (history : History) (answer : Answer) (m n : ℕ) →
+    IsAnswerOf task budget history answer → 0 < n → take m (answer_text answer) ≡ take n (codes "no plan\n") → answer_status answer ≡ 1
+answer_begun task budget history NoPlan m n is some same = refl
+answer_begun task budget history (BudgetReached b) m n is some same =
+    absurd (let e = first_byte 98 110 (drop 1 (answer_text (BudgetReached b))) (drop 1 (codes "no plan\n")) m n some same in omega arith)
+answer_begun task budget history (PlanFound text) m n is some same = absurd (plan_begins task is.steps m n some (ap (take m) (sym is.text_is) ∙ same))
+
+search_begun : (task : TypedTask) (budget : ℕ) (history : History) (outcome : Outcome) (m n : ℕ) →
+    EndsSearch task budget history outcome → 0 < n → take m (out_text outcome) ≡ take n (codes "no plan\n") → status_of outcome ≡ 1
+search_begun task budget history (Answered answer) m n ends some same = answer_begun task budget history answer m n ends some same
+search_begun task budget history (Stopped stop) m n ends some same = absurd (no_byte 110 (drop 1 (codes "no plan\n")) m n some same)
+search_begun task budget history (Judged judgement) m n ends some same = absurd ends
+search_begun task budget history WordsRefused m n ends some same = absurd ends
+
+-- a stop writes nothing to out
+stop_begun : (outcome : Outcome) (stop : Stop) (m n : ℕ) → outcome ≡ Stopped stop → 0 < n → take m (out_text outcome) ≡ take n (codes "no plan\n") → ⊥
+stop_begun outcome stop m n is some same =
+    no_byte 110 (drop 1 (codes "no plan\n")) m n some (subst (λ o. take m (out_text o) ≡ take n (codes "no plan\n")) is same)
+
+begun_by : (held : List ℕ → Option (List ℕ)) (request : Option Request) (loads : List Loading) (history : History) (outcome : Outcome) (m n : ℕ) (domain problem : List ℕ) (budget : ℕ) →
+    Ends held request loads history outcome → 0 < n → take m (out_text outcome) ≡ take n (codes "no plan\n") → Asks held request domain problem budget → status_of outcome ≡ 1
+begun_by held None loads history outcome m n domain problem budget ends some same asks = absurd asks
+begun_by held (Some (Validate d p pl)) loads history outcome m n domain problem budget ends some same asks = absurd asks
+begun_by held (Some (Plan d p b)) loads history outcome m n domain problem budget (inl before) some same asks = absurd (stop_begun outcome before.stop m n before.is some same)
+begun_by held (Some (Plan d p b)) loads history outcome m n domain problem budget (inr behind) some same asks = task_begun behind.ends
+  where
+    task_begun : EndsTask behind.task b history outcome → status_of outcome ≡ 1
+    task_begun (inl (plain, ends)) = search_begun behind.task b history outcome m n ends some same
+    task_begun (inr (not_plain, empty, is)) = absurd (stop_begun outcome NotBuilt m n is some same)
 
 pub begun_none : {held : List ℕ → Option (List ℕ)} {request : Option Request} {log_before log_after : List Loading}
     {out_before out_after err_before err_after : Option (List ℕ)} {answer : ℕ} {history : History} →
@@ -75,4 +94,4 @@ begun_none {held = held} {request = request} {log_before = before} {log_after = 
     let front = front_of_out runs.outcome ob oa eb ea runs.concludes.delivered runs.concludes.written in
     let same = behind begins.written (out_text runs.outcome) (take begins.more (codes "no plan\n")) front.0 ob oa begins.told begins.begun front.2 in
     no_plan_asked held request runs.loads history runs.outcome domain problem budget runs.ends
-    (begun_by held request runs.loads history runs.outcome front.0 begins.more runs.ends begins.some same) asks
+    (begun_by held request runs.loads history runs.outcome front.0 begins.more domain problem budget runs.ends begins.some same asks) asks

@@ -1,7 +1,6 @@
--- What follows from how a call runs.
-use Rattle.std.proofs.Common.{◌≡◌, ◌≢◌, ℕ, zero, suc, IsTrue, inl, inr, Bool, true, false, Option, Some, None, Result, Ok, Err, List, [], ◌∷◌, ◌++◌, map, take, codes, refl, sym, ◌∙◌, ap, subst, append-nil, arith}
+-- What follows from how a call runs: its status, its words and its loads.
+use Rattle.std.proofs.Common.{◌≡◌, ◌≢◌, ℕ, ◌⊎◌, IsTrue, inl, inr, true, false, Option, Some, None, Result, Ok, Err, List, [], ◌∷◌, ◌++◌, map, codes, refl, sym, ◌∙◌, ap, subst, append-nil, arith}
 use Rattle.std.proofs.lemmas.List.Prefix.{front_rest}
-use Rattle.std.proofs.lemmas.Bool.{false≢true}
 use Rattle.mf_io.specs.declared.folder.Loading.{Loading}
 use Rattle.mf_io.specs.declared.sink.PutFault.{PutFault}
 use Rattle.mf_io.specs.declared.sink.PutFault.TheVariants.{Failed, Memory}
@@ -9,14 +8,25 @@ use Rattle.mf_io.specs.Sink.{Appends}
 use Rattle.mf_model.specs.declared.task.TypedTask.{TypedTask}
 use Rattle.mf_plain.specs.declared.history.History.{History}
 use Rattle.mf_top.specs.declared.request.Request.{Request}
-use Rattle.mf_top.specs.declared.request.Request.TheVariants.{Plan}
+use Rattle.mf_top.specs.declared.request.Request.TheVariants.{Plan, Validate}
+use Rattle.mf_top.specs.declared.outcome.Stop.{Stop}
+use Rattle.mf_top.specs.declared.outcome.Stop.TheVariants.{CannotRead, TooLong, Refused, PlanRefused, NotBuilt, OutOfMemory}
+use Rattle.mf_top.specs.declared.outcome.Answer.TheVariants.{PlanFound, NoPlan, BudgetReached}
 use Rattle.mf_top.specs.declared.outcome.Outcome.{Outcome}
-use Rattle.mf_top.specs.declared.outcome.Outcome.TheVariants.{WordsRefused, CannotRead, TooLong, NotBuilt, PlanFound, NoPlan, BudgetReached, OutOfMemory}
-use Rattle.mf_top.specs.Calls.{Stands, IsStatus, files_of, new_loads, last_failed, OnlyLastFailed, GrowsBy, SaysUnread}
+use Rattle.mf_top.specs.declared.outcome.Outcome.TheVariants.{WordsRefused, Stopped, Answered, Judged}
+use Rattle.mf_top.specs.Calls.{Stands, IsStatus, files_of, new_loads, last_failed, GrowsBy, SaysUnread}
 use Rattle.mf_top.specs.Delivery.{WritesBoth, final_status}
-use Rattle.mf_top.specs.Loads.{found, lost}
-use Rattle.mf_top.specs.Outcome.{Concludes, Ends, EndsLoading, EndsRefused, EndsSearch, Runs}
-use Rattle.mf_top.specs.Texts.{status_of, out_text, err_text}
+use Rattle.mf_top.specs.Loads.{AreRead, found}
+use Rattle.mf_top.specs.Judging.{ReadsPlan, Judges, EndsTyped, EndsJudging, EndsLoaded, EndsValidate}
+use Rattle.mf_top.specs.Outcome.{Concludes, Ends, EndsBefore, EndsBehind, EndsSearch, EndsTask, Runs}
+use Rattle.mf_top.specs.Reading.{ReadsTask, StopsTask}
+use Rattle.mf_model.specs.declared.state.Instance.{Instance}
+use Rattle.mf_validator.specs.declared.verdict.Verdict.TheVariants as verdict
+use Rattle.mf_top.specs.declared.outcome.Judgement.TheVariants.{Said, TooWide}
+use Rattle.mf_top.specs.Promises.{LoadsFiles}
+use Rattle.mf_top.specs.Texts.{status_of, stop_status, stop_text, out_text, err_text}
+use Rattle.mf_top.proofs.LoadLemmas.{InOrder, in_order_by, all_in_order, stop_in_order, all_found, found_last, stop_failed, stop_four, stop_says}
+use Rattle.mf_top.proofs.Statuses.{stop_not_two, answer_not_two, answer_not_four, verdict_not_two, verdict_not_four, stopped_status}
 
 -- the statuses
 
@@ -58,31 +68,59 @@ is_status {answer = answer} runs = by runs.outcome (stands runs.outcome runs.con
   where
     by : (outcome : Outcome) → Stands (status_of outcome) answer → IsStatus answer
     by outcome (inr (inl five)) = inr (inr (inr (inr (inr (inl five)))))
-    by outcome (inr (inr eight)) = inr (inr (inr (inr (inr (inr (inr eight))))))
-    by (PlanFound text) (inl is) = inl is
-    by NoPlan (inl is) = inr (inl is)
+    by outcome (inr (inr eight)) = inr (inr (inr (inr (inr (inr (inr (inr eight)))))))
+    by (Judged (Said (verdict.Valid metric))) (inl is) = inl is
+    by (Judged (Said (verdict.StepFails step why))) (inl is) = inr (inl is)
+    by (Judged (Said verdict.GoalFails)) (inl is) = inr (inl is)
+    by (Judged (TooWide step)) (inl is) = inr (inr (inr (inr (inr (inr (inr (inl is)))))))
+    by (Answered (PlanFound text)) (inl is) = inl is
+    by (Answered NoPlan) (inl is) = inr (inl is)
+    by (Answered (BudgetReached n)) (inl is) = inr (inr (inr (inr (inr (inr (inl is))))))
     by WordsRefused (inl is) = inr (inr (inl is))
-    by (TooLong name) (inl is) = inr (inr (inr (inl is)))
-    by (NotBuilt name) (inl is) = inr (inr (inr (inl is)))
-    by (CannotRead name) (inl is) = inr (inr (inr (inr (inl is))))
-    by (BudgetReached n) (inl is) = inr (inr (inr (inr (inr (inr (inl is))))))
-    by OutOfMemory (inl is) = inr (inr (inr (inr (inr (inr (inr is))))))
+    by (Stopped (TooLong name)) (inl is) = inr (inr (inr (inl is)))
+    by (Stopped (Refused name refusal)) (inl is) = inr (inr (inr (inl is)))
+    by (Stopped (PlanRefused name flaw line)) (inl is) = inr (inr (inr (inl is)))
+    by (Stopped NotBuilt) (inl is) = inr (inr (inr (inl is)))
+    by (Stopped (CannotRead name)) (inl is) = inr (inr (inr (inr (inl is))))
+    by (Stopped OutOfMemory) (inl is) = inr (inr (inr (inr (inr (inr (inr (inr is)))))))
 
 -- the words
+
+search_not_two : (task : TypedTask) (budget : ℕ) (history : History) (outcome : Outcome) → EndsSearch task budget history outcome → status_of outcome ≡ 2 → ⊥
+search_not_two task budget history (Answered answer) ends two = answer_not_two answer two
+search_not_two task budget history (Stopped stop) ends two = stop_not_two stop two
+search_not_two task budget history (Judged judgement) ends two = ends
+search_not_two task budget history WordsRefused ends two = ends
+
+task_not_two : (task : TypedTask) (budget : ℕ) (history : History) (outcome : Outcome) → EndsTask task budget history outcome → status_of outcome ≡ 2 → ⊥
+task_not_two task budget history outcome (inl (plain, ends)) two = search_not_two task budget history outcome ends two
+task_not_two task budget history outcome (inr (not_plain, empty, is)) two = stop_not_two NotBuilt (stopped_status outcome NotBuilt (λ n. n ≡ 2) is two)
+
+-- how a judgement ends
+
+judges_not_two : (task : TypedTask) (plan : List Instance) (outcome : Outcome) → Judges task plan outcome → status_of outcome ≡ 2 → ⊥
+judges_not_two task plan (Judged judgement) ends two = verdict_not_two judgement two
+judges_not_two task plan (Stopped stop) ends two = stop_not_two stop two
+judges_not_two task plan (Answered answer) ends two = ends
+judges_not_two task plan WordsRefused ends two = ends
+
+judging_not_two : (d p pl domain problem source : List ℕ) (outcome : Outcome) → EndsJudging d p pl domain problem source outcome → status_of outcome ≡ 2 → ⊥
+judging_not_two d p pl domain problem source outcome (inl (stop, is, says)) two = stop_not_two stop (stopped_status outcome stop (λ n. n ≡ 2) is two)
+judging_not_two d p pl domain problem source outcome (inr (task, of_files, inl (stop, is, says))) two = stop_not_two stop (stopped_status outcome stop (λ n. n ≡ 2) is two)
+judging_not_two d p pl domain problem source outcome (inr (task, of_files, inr (plan, written, judges))) two = judges_not_two task plan outcome judges two
+
+validate_not_two : (held : List ℕ → Option (List ℕ)) (d p pl : List ℕ) (loads : List Loading) (outcome : Outcome) → EndsValidate held d p pl loads outcome → status_of outcome ≡ 2 → ⊥
+validate_not_two held d p pl loads outcome (inl (stop, is, stops)) two = stop_not_two stop (stopped_status outcome stop (λ n. n ≡ 2) is two)
+validate_not_two held d p pl loads outcome (inr loaded) two =
+    judging_not_two d p pl loaded.domain_bytes loaded.problem_bytes loaded.plan_bytes outcome loaded.ends two
 
 -- an outcome of refused words belongs to words that ask for nothing
 refused_of : (held : List ℕ → Option (List ℕ)) (request : Option Request) (loads : List Loading) (history : History) (outcome : Outcome) →
     Ends held request loads history outcome → status_of outcome ≡ 2 → request ≡ None
 refused_of held None loads history outcome ends two = refl
-refused_of held (Some (Plan d p b)) loads history WordsRefused (inl (empty, ends)) two = absurd ends
-refused_of held (Some (Plan d p b)) loads history WordsRefused (inr by_answer) two = absurd by_answer.ends
-refused_of held (Some (Plan d p b)) loads history (CannotRead name) ends two = absurd (omega arith)
-refused_of held (Some (Plan d p b)) loads history (TooLong name) ends two = absurd (omega arith)
-refused_of held (Some (Plan d p b)) loads history (NotBuilt name) ends two = absurd (omega arith)
-refused_of held (Some (Plan d p b)) loads history (PlanFound text) ends two = absurd (omega arith)
-refused_of held (Some (Plan d p b)) loads history NoPlan ends two = absurd (omega arith)
-refused_of held (Some (Plan d p b)) loads history (BudgetReached n) ends two = absurd (omega arith)
-refused_of held (Some (Plan d p b)) loads history OutOfMemory ends two = absurd (omega arith)
+refused_of held (Some (Plan d p b)) loads history outcome (inl before) two = absurd (stop_not_two before.stop (stopped_status outcome before.stop (λ n. n ≡ 2) before.is two))
+refused_of held (Some (Plan d p b)) loads history outcome (inr behind) two = absurd (task_not_two behind.task b history outcome behind.ends two)
+refused_of held (Some (Validate d p pl)) loads history outcome ends two = absurd (validate_not_two held d p pl loads outcome ends.1 two)
 
 pub two_refuses : {held : List ℕ → Option (List ℕ)} {request : Option Request} {log_before log_after : List Loading}
     {out_before out_after err_before err_after : Option (List ℕ)} {answer : ℕ} {history : History} →
@@ -91,22 +129,19 @@ two_refuses {held = held} {request = request} {history = history} runs two =
     refused_of held request runs.loads history runs.outcome runs.ends
     (concluded runs.outcome 2 (omega arith) (omega arith) runs.concludes two).decided
 
-refused_stands : (history : History) (outcome : Outcome) (answer : ℕ) → EndsRefused outcome → Stands (status_of outcome) answer → Stands 2 answer
-refused_stands history WordsRefused answer ends is = is
-refused_stands history OutOfMemory answer ends (inl is) = inr (inr is)
-refused_stands history OutOfMemory answer ends (inr is) = inr is
-refused_stands history (CannotRead name) answer ends is = absurd ends
-refused_stands history (TooLong name) answer ends is = absurd ends
-refused_stands history (NotBuilt name) answer ends is = absurd ends
-refused_stands history (PlanFound text) answer ends is = absurd ends
-refused_stands history NoPlan answer ends is = absurd ends
-refused_stands history (BudgetReached n) answer ends is = absurd ends
+refused_stands : (outcome : Outcome) (answer : ℕ) → (outcome ≡ WordsRefused) ⊎ (outcome ≡ Stopped OutOfMemory) → Stands (status_of outcome) answer → Stands 2 answer
+refused_stands outcome answer (inl refused) is = subst (λ o. Stands (status_of o) answer) refused is
+refused_stands outcome answer (inr memory) is = by (subst (λ o. Stands (status_of o) answer) memory is)
+  where
+    by : Stands 8 answer → Stands 2 answer
+    by (inl eight) = inr (inr eight)
+    by (inr other) = inr other
 
 pub refusal_stands : {held : List ℕ → Option (List ℕ)} {request : Option Request} {log_before log_after : List Loading}
     {out_before out_after err_before err_after : Option (List ℕ)} {answer : ℕ} {history : History} →
     Runs held request log_before log_after out_before out_after err_before err_after answer history → request ≡ None → Stands 2 answer
 refusal_stands {held = held} {answer = answer} {history = history} runs none =
-    refused_stands history runs.outcome answer (subst (λ r. Ends held r runs.loads history runs.outcome) none runs.ends).2 (stands runs.outcome runs.concludes)
+    refused_stands runs.outcome answer (subst (λ r. Ends held r runs.loads history runs.outcome) none runs.ends).2 (stands runs.outcome runs.concludes)
 
 pub refusal_unloaded : {held : List ℕ → Option (List ℕ)} {request : Option Request} {log_before log_after : List Loading}
     {out_before out_after err_before err_after : Option (List ℕ)} {answer : ℕ} {history : History} →
@@ -122,192 +157,185 @@ wrote_nothing (Some bytes) after none = none ∙ ap (λ all. Some all) (append-n
 refusal_texts : (outcome : Outcome) (ob oa eb ea : Option (List ℕ)) → Concluded outcome ob oa eb ea 2 →
     (oa ≡ ob) × Appends (codes "words refused\n") eb ea
 refusal_texts WordsRefused ob oa eb ea concluded = (wrote_nothing ob oa concluded.out, concluded.err)
-refusal_texts (CannotRead name) ob oa eb ea concluded = let two = concluded.decided in absurd (omega arith)
-refusal_texts (TooLong name) ob oa eb ea concluded = let two = concluded.decided in absurd (omega arith)
-refusal_texts (NotBuilt name) ob oa eb ea concluded = let two = concluded.decided in absurd (omega arith)
-refusal_texts (PlanFound text) ob oa eb ea concluded = let two = concluded.decided in absurd (omega arith)
-refusal_texts NoPlan ob oa eb ea concluded = let two = concluded.decided in absurd (omega arith)
-refusal_texts (BudgetReached n) ob oa eb ea concluded = let two = concluded.decided in absurd (omega arith)
-refusal_texts OutOfMemory ob oa eb ea concluded = let two = concluded.decided in absurd (omega arith)
+refusal_texts (Stopped stop) ob oa eb ea concluded = absurd (stop_not_two stop concluded.decided)
+refusal_texts (Judged judgement) ob oa eb ea concluded = absurd (verdict_not_two judgement concluded.decided)
+refusal_texts (Answered answer) ob oa eb ea concluded = absurd (answer_not_two answer concluded.decided)
 
 pub two_says : {held : List ℕ → Option (List ℕ)} {request : Option Request} {log_before log_after : List Loading}
     {out_before out_after err_before err_after : Option (List ℕ)} {answer : ℕ} {history : History} →
-    Runs held request log_before log_after out_before out_after err_before err_after answer history →
-    answer ≡ 2 → (out_after ≡ out_before) × Appends (codes "words refused\n") err_before err_after
+    Runs held request log_before log_after out_before out_after err_before err_after answer history → answer ≡ 2 → (out_after ≡ out_before) × Appends (codes "words refused\n") err_before err_after
 two_says {out_before = ob} {out_after = oa} {err_before = eb} {err_after = ea} runs two =
     refusal_texts runs.outcome ob oa eb ea (concluded runs.outcome 2 (omega arith) (omega arith) runs.concludes two)
 
 -- the log
 
--- the loads are those of a front part of the names, and none but the last failed
-pub record InOrder (names : List (List ℕ)) (loads : List Loading) : Type 0 where
-  pub rest : List (List ℕ)
-  pub in_order : names ≡ map (λ load. load.name) loads ++ rest
-  pub going_on : OnlyLastFailed loads
-
-in_order_by : (names : List (List ℕ)) (loads these : List Loading) → loads ≡ these → InOrder names these → InOrder names loads
-in_order_by names loads these same of = subst (InOrder names) (sym same) of
-
-nothing_taken : (n : ℕ) → take {A = Loading} n [] ≡ []
-nothing_taken zero = refl
-nothing_taken (suc n) = refl
-
-front_in_order : (d p : List ℕ) (n : ℕ) → InOrder (d ∷ p ∷ []) (take n (found d ∷ found p ∷ []))
-front_in_order d p zero = record { rest = d ∷ p ∷ []; in_order = refl; going_on = tt }
-front_in_order d p (suc zero) = record { rest = p ∷ []; in_order = refl; going_on = tt }
-front_in_order d p (suc (suc n)) =
-    in_order_by (d ∷ p ∷ []) (take (suc (suc n)) (found d ∷ found p ∷ [])) (found d ∷ found p ∷ [])
-    (ap (λ loads. found d ∷ found p ∷ loads) (nothing_taken n)) (record { rest = []; in_order = refl; going_on = (refl, tt) })
-
-both_in_order : (d p : List ℕ) (failed : Bool) → InOrder (d ∷ p ∷ []) (found d ∷ record { name = p; failed = failed } ∷ [])
-both_in_order d p failed = record { rest = []; in_order = refl; going_on = (refl, tt) }
-
-loading_in_order : (held : List ℕ → Option (List ℕ)) (d p : List ℕ) (loads : List Loading) (outcome : Outcome) →
-    EndsLoading held d p loads outcome → InOrder (d ∷ p ∷ []) loads
-loading_in_order held d p loads (CannotRead name) (inl (is, noted)) =
-    in_order_by (d ∷ p ∷ []) loads (lost d ∷ []) noted (record { rest = p ∷ []; in_order = refl; going_on = tt })
-loading_in_order held d p loads (CannotRead name) (inr (is, noted, read)) = in_order_by (d ∷ p ∷ []) loads (found d ∷ lost p ∷ []) noted (both_in_order d p true)
-loading_in_order held d p loads (TooLong name) (inl (is, noted)) = in_order_by (d ∷ p ∷ []) loads (found d ∷ []) noted.0 (front_in_order d p 1)
-loading_in_order held d p loads (TooLong name) (inr (is, noted, read)) = in_order_by (d ∷ p ∷ []) loads (found d ∷ found p ∷ []) noted.0 (both_in_order d p false)
-loading_in_order held d p loads (NotBuilt name) ends = in_order_by (d ∷ p ∷ []) loads (found d ∷ found p ∷ []) ends.read.noted (both_in_order d p false)
-loading_in_order held d p loads OutOfMemory (n, noted) = in_order_by (d ∷ p ∷ []) loads (take n (found d ∷ found p ∷ [])) noted (front_in_order d p n)
-loading_in_order held d p loads WordsRefused ends = absurd ends
-loading_in_order held d p loads (PlanFound text) ends = absurd ends
-loading_in_order held d p loads NoPlan ends = absurd ends
-loading_in_order held d p loads (BudgetReached n) ends = absurd ends
+task_in_order : (held : List ℕ → Option (List ℕ)) (d p : List ℕ) (loads : List Loading) (stop : Stop) → StopsTask held d p loads stop → InOrder (d ∷ p ∷ []) loads
+task_in_order held d p loads stop (inl stops) = stop_in_order held (d ∷ p ∷ []) loads stop stops
+task_in_order held d p loads stop (inr reads) = in_order_by (d ∷ p ∷ []) loads (map found (d ∷ p ∷ [])) reads.read.noted (all_in_order (d ∷ p ∷ []))
 
 ends_in_order : (held : List ℕ → Option (List ℕ)) (request : Option Request) (loads : List Loading) (history : History) (outcome : Outcome) →
     Ends held request loads history outcome → InOrder (files_of request) loads
-ends_in_order held None loads history outcome ends = in_order_by [] loads [] ends.0 (record { rest = []; in_order = refl; going_on = tt })
-ends_in_order held (Some (Plan d p b)) loads history outcome (inl (empty, ends)) = loading_in_order held d p loads outcome ends
-ends_in_order held (Some (Plan d p b)) loads history outcome (inr by_answer) =
-    in_order_by (d ∷ p ∷ []) loads (found d ∷ found p ∷ []) by_answer.loaded.read.noted (both_in_order d p false)
+ends_in_order held None loads history outcome ends = in_order_by [] loads [] ends.0 (all_in_order [])
+ends_in_order held (Some (Plan d p b)) loads history outcome (inl before) = task_in_order held d p loads before.stop before.stops
+ends_in_order held (Some (Plan d p b)) loads history outcome (inr behind) =
+    in_order_by (d ∷ p ∷ []) loads (map found (d ∷ p ∷ [])) behind.loaded.read.noted (all_in_order (d ∷ p ∷ []))
+ends_in_order held (Some (Validate d p pl)) loads history outcome (empty, inl (stop, is, stops)) = stop_in_order held (d ∷ p ∷ pl ∷ []) loads stop stops
+ends_in_order held (Some (Validate d p pl)) loads history outcome (empty, inr loaded) =
+    in_order_by (d ∷ p ∷ pl ∷ []) loads (map found (d ∷ p ∷ pl ∷ [])) loaded.read.noted (all_in_order (d ∷ p ∷ pl ∷ []))
 
 pub new_loads_are : (before after loads : List Loading) → after ≡ before ++ loads → loads ≡ new_loads before after
 new_loads_are before after loads grown = sym (front_rest after before loads grown)
 
-pub log_grows : {held : List ℕ → Option (List ℕ)} {request : Option Request} {log_before log_after : List Loading}
+log_grows : {held : List ℕ → Option (List ℕ)} {request : Option Request} {log_before log_after : List Loading}
     {out_before out_after err_before err_after : Option (List ℕ)} {answer : ℕ} {history : History} →
-    Runs held request log_before log_after out_before out_after err_before err_after answer history →
-    GrowsBy (files_of request) log_before log_after
+    Runs held request log_before log_after out_before out_after err_before err_after answer history → GrowsBy (files_of request) log_before log_after
 log_grows {held = held} {request = request} {log_before = before} {log_after = after} {history = history} runs =
     let ordered = ends_in_order held request runs.loads history runs.outcome runs.ends in
     let new = new_loads_are before after runs.loads runs.logged in
     let order : InOrder (files_of request) (new_loads before after) = subst (InOrder (files_of request)) new ordered in
     record { grown = runs.logged ∙ ap (λ loads. before ++ loads) new; rest = order.rest; in_order = order.in_order; going_on = order.going_on }
 
--- a read fault
+-- a read fault: the outcome is that a file can't be read exactly where the last load failed
 
--- the outcome is that a file can't be read exactly where the last load failed
-pub loading_failed : (held : List ℕ → Option (List ℕ)) (d p : List ℕ) (loads : List Loading) (outcome : Outcome) →
-    EndsLoading held d p loads outcome → status_of outcome ≡ 4 → IsTrue (last_failed loads)
-loading_failed held d p loads (CannotRead name) (inl (is, noted)) four = subst (λ l. IsTrue (last_failed l)) (sym noted) refl
-loading_failed held d p loads (CannotRead name) (inr (is, noted, read)) four = subst (λ l. IsTrue (last_failed l)) (sym noted) refl
-loading_failed held d p loads WordsRefused ends four = absurd (omega arith)
-loading_failed held d p loads (TooLong name) ends four = absurd (omega arith)
-loading_failed held d p loads (NotBuilt name) ends four = absurd (omega arith)
-loading_failed held d p loads (PlanFound text) ends four = absurd (omega arith)
-loading_failed held d p loads NoPlan ends four = absurd (omega arith)
-loading_failed held d p loads (BudgetReached n) ends four = absurd (omega arith)
-loading_failed held d p loads OutOfMemory ends four = absurd (omega arith)
+two_four : ◌≡◌ {A = ℕ} 2 4 → ⊥
+two_four same = omega arith
 
-answer_not_four : (task : TypedTask) (budget : ℕ) (history : History) (outcome : Outcome) → EndsSearch task budget history outcome → status_of outcome ≢ 4
-answer_not_four task budget history (CannotRead name) ends four = absurd ends
-answer_not_four task budget history WordsRefused ends four = absurd (omega arith)
-answer_not_four task budget history (TooLong name) ends four = absurd (omega arith)
-answer_not_four task budget history (NotBuilt name) ends four = absurd (omega arith)
-answer_not_four task budget history (PlanFound text) ends four = absurd (omega arith)
-answer_not_four task budget history NoPlan ends four = absurd (omega arith)
-answer_not_four task budget history (BudgetReached n) ends four = absurd (omega arith)
-answer_not_four task budget history OutOfMemory ends four = absurd (omega arith)
+three_four : ◌≡◌ {A = ℕ} 3 4 → ⊥
+three_four same = omega arith
 
-refused_not_four : (outcome : Outcome) → EndsRefused outcome → status_of outcome ≢ 4
-refused_not_four (CannotRead name) ends four = absurd ends
-refused_not_four WordsRefused ends four = absurd (omega arith)
-refused_not_four (TooLong name) ends four = absurd (omega arith)
-refused_not_four (NotBuilt name) ends four = absurd (omega arith)
-refused_not_four (PlanFound text) ends four = absurd (omega arith)
-refused_not_four NoPlan ends four = absurd (omega arith)
-refused_not_four (BudgetReached n) ends four = absurd (omega arith)
-refused_not_four OutOfMemory ends four = absurd (omega arith)
+eight_four : ◌≡◌ {A = ℕ} 8 4 → ⊥
+eight_four same = omega arith
 
-ends_failed : (held : List ℕ → Option (List ℕ)) (request : Option Request) (loads : List Loading) (history : History) (outcome : Outcome) →
+pub reads_not_four : (d p domain problem : List ℕ) (stop : Stop) → ReadsTask d p domain problem (Err stop) → stop_status stop ≡ 4 → ⊥
+reads_not_four d p domain problem (Refused name refusal) says four = omega arith
+reads_not_four d p domain problem OutOfMemory says four = omega arith
+reads_not_four d p domain problem (CannotRead name) says four = says
+reads_not_four d p domain problem (TooLong name) says four = says
+reads_not_four d p domain problem (PlanRefused name flaw line) says four = says
+reads_not_four d p domain problem NotBuilt says four = says
+
+search_not_four : (task : TypedTask) (budget : ℕ) (history : History) (outcome : Outcome) → EndsSearch task budget history outcome → status_of outcome ≡ 4 → ⊥
+search_not_four task budget history (Answered answer) ends four = answer_not_four answer four
+search_not_four task budget history (Stopped OutOfMemory) ends four = omega arith
+search_not_four task budget history (Stopped (CannotRead name)) ends four = ends
+search_not_four task budget history (Stopped (TooLong name)) ends four = ends
+search_not_four task budget history (Stopped (Refused name refusal)) ends four = ends
+search_not_four task budget history (Stopped NotBuilt) ends four = ends
+search_not_four task budget history (Stopped (PlanRefused name flaw line)) ends four = ends
+search_not_four task budget history (Judged judgement) ends four = ends
+search_not_four task budget history WordsRefused ends four = ends
+
+task_not_four : (task : TypedTask) (budget : ℕ) (history : History) (outcome : Outcome) → EndsTask task budget history outcome → status_of outcome ≡ 4 → ⊥
+task_not_four task budget history outcome (inl (plain, ends)) four = search_not_four task budget history outcome ends four
+task_not_four task budget history outcome (inr (not_plain, empty, is)) four = three_four (stopped_status outcome NotBuilt (λ n. n ≡ 4) is four)
+
+refused_not_four : (outcome : Outcome) → (outcome ≡ WordsRefused) ⊎ (outcome ≡ Stopped OutOfMemory) → status_of outcome ≡ 4 → ⊥
+refused_not_four outcome (inl refused) four = two_four (subst (λ o. status_of o ≡ 4) refused four)
+refused_not_four outcome (inr memory) four = eight_four (subst (λ o. status_of o ≡ 4) memory four)
+
+before_failed : (held : List ℕ → Option (List ℕ)) (d p : List ℕ) (loads : List Loading) (stop : Stop) → StopsTask held d p loads stop → stop_status stop ≡ 4 → IsTrue (last_failed loads)
+before_failed held d p loads stop (inl stops) four = stop_failed held (d ∷ p ∷ []) loads stop stops four
+before_failed held d p loads stop (inr reads) four = absurd (reads_not_four d p reads.domain_bytes reads.problem_bytes stop reads.says four)
+
+pub plan_not_four : (name source : List ℕ) (task : TypedTask) (stop : Stop) → ReadsPlan name source task (Err stop) → stop_status stop ≡ 4 → ⊥
+plan_not_four name source task (PlanRefused n flaw line) says four = omega arith
+plan_not_four name source task OutOfMemory says four = omega arith
+plan_not_four name source task (CannotRead n) says four = says
+plan_not_four name source task (TooLong n) says four = says
+plan_not_four name source task (Refused n refusal) says four = says
+plan_not_four name source task NotBuilt says four = says
+
+judges_not_four : (task : TypedTask) (plan : List Instance) (outcome : Outcome) → Judges task plan outcome → status_of outcome ≡ 4 → ⊥
+judges_not_four task plan (Judged judgement) ends four = verdict_not_four judgement four
+judges_not_four task plan (Stopped OutOfMemory) ends four = omega arith
+judges_not_four task plan (Stopped (CannotRead name)) ends four = ends
+judges_not_four task plan (Stopped (TooLong name)) ends four = ends
+judges_not_four task plan (Stopped (Refused name refusal)) ends four = ends
+judges_not_four task plan (Stopped (PlanRefused name flaw line)) ends four = ends
+judges_not_four task plan (Stopped NotBuilt) ends four = ends
+judges_not_four task plan (Answered answer) ends four = ends
+judges_not_four task plan WordsRefused ends four = ends
+
+judging_not_four : (d p pl domain problem source : List ℕ) (outcome : Outcome) → EndsJudging d p pl domain problem source outcome → status_of outcome ≡ 4 → ⊥
+judging_not_four d p pl domain problem source outcome (inl (stop, is, says)) four =
+    reads_not_four d p domain problem stop says (stopped_status outcome stop (λ n. n ≡ 4) is four)
+judging_not_four d p pl domain problem source outcome (inr (task, of_files, inl (stop, is, says))) four =
+    plan_not_four pl source task stop says (stopped_status outcome stop (λ n. n ≡ 4) is four)
+judging_not_four d p pl domain problem source outcome (inr (task, of_files, inr (plan, written, judges))) four = judges_not_four task plan outcome judges four
+
+loaded_not_four : (held : List ℕ → Option (List ℕ)) (d p pl : List ℕ) (loads : List Loading) (outcome : Outcome) → EndsLoaded held d p pl loads outcome → status_of outcome ≡ 4 → ⊥
+loaded_not_four held d p pl loads outcome loaded four = judging_not_four d p pl loaded.domain_bytes loaded.problem_bytes loaded.plan_bytes outcome loaded.ends four
+
+pub ends_failed : (held : List ℕ → Option (List ℕ)) (request : Option Request) (loads : List Loading) (history : History) (outcome : Outcome) →
     Ends held request loads history outcome → status_of outcome ≡ 4 → IsTrue (last_failed loads)
 ends_failed held None loads history outcome ends four = absurd (refused_not_four outcome ends.2 four)
-ends_failed held (Some (Plan d p b)) loads history outcome (inl (empty, ends)) four = loading_failed held d p loads outcome ends four
-ends_failed held (Some (Plan d p b)) loads history outcome (inr by_answer) four = absurd (answer_not_four by_answer.task b history outcome by_answer.ends four)
+ends_failed held (Some (Plan d p b)) loads history outcome (inl before) four =
+    before_failed held d p loads before.stop before.stops (stopped_status outcome before.stop (λ n. n ≡ 4) before.is four)
+ends_failed held (Some (Plan d p b)) loads history outcome (inr behind) four = absurd (task_not_four behind.task b history outcome behind.ends four)
+ends_failed held (Some (Validate d p pl)) loads history outcome (empty, inl (stop, is, stops)) four =
+    stop_failed held (d ∷ p ∷ pl ∷ []) loads stop stops (stopped_status outcome stop (λ n. n ≡ 4) is four)
+ends_failed held (Some (Validate d p pl)) loads history outcome (empty, inr loaded) four = absurd (loaded_not_four held d p pl loads outcome loaded four)
 
 pub four_failed : {held : List ℕ → Option (List ℕ)} {request : Option Request} {log_before log_after : List Loading}
     {out_before out_after err_before err_after : Option (List ℕ)} {answer : ℕ} {history : History} →
-    Runs held request log_before log_after out_before out_after err_before err_after answer history →
-    answer ≡ 4 → IsTrue (last_failed (new_loads log_before log_after))
+    Runs held request log_before log_after out_before out_after err_before err_after answer history → answer ≡ 4 → IsTrue (last_failed (new_loads log_before log_after))
 four_failed {held = held} {request = request} {log_before = before} {log_after = after} {history = history} runs four =
     subst (λ loads. IsTrue (last_failed loads)) (new_loads_are before after runs.loads runs.logged)
     (ends_failed held request runs.loads history runs.outcome runs.ends (concluded runs.outcome 4 (omega arith) (omega arith) runs.concludes four).decided)
 
--- a load that found its file is not the failed one
-found_last : (loads these : List Loading) → loads ≡ these → last_failed these ≡ false → IsTrue (last_failed loads) → ⊥
-found_last loads these same none failed = false≢true (sym none ∙ subst (λ l. IsTrue (last_failed l)) same failed)
+both_found : (d p : List ℕ) (loads : List Loading) → loads ≡ map found (d ∷ p ∷ []) → IsTrue (last_failed loads) → ⊥
+both_found d p loads noted failed = found_last loads (map found (d ∷ p ∷ [])) noted (all_found (d ∷ p ∷ [])) failed
 
-front_found : (d p : List ℕ) (n : ℕ) → last_failed (take n (found d ∷ found p ∷ [])) ≡ false
-front_found d p zero = refl
-front_found d p (suc zero) = refl
-front_found d p (suc (suc n)) = ap (λ loads. last_failed (found p ∷ loads)) (nothing_taken n)
-
-loading_four : (held : List ℕ → Option (List ℕ)) (d p : List ℕ) (loads : List Loading) (outcome : Outcome) →
-    EndsLoading held d p loads outcome → IsTrue (last_failed loads) → status_of outcome ≡ 4
-loading_four held d p loads (CannotRead name) ends failed = refl
-loading_four held d p loads (TooLong name) (inl (is, noted)) failed = absurd (found_last loads (found d ∷ []) noted.0 refl failed)
-loading_four held d p loads (TooLong name) (inr (is, noted, read)) failed = absurd (found_last loads (found d ∷ found p ∷ []) noted.0 refl failed)
-loading_four held d p loads (NotBuilt name) ends failed = absurd (found_last loads (found d ∷ found p ∷ []) ends.read.noted refl failed)
-loading_four held d p loads OutOfMemory (n, noted) failed = absurd (found_last loads (take n (found d ∷ found p ∷ [])) noted (front_found d p n) failed)
-loading_four held d p loads WordsRefused ends failed = absurd ends
-loading_four held d p loads (PlanFound text) ends failed = absurd ends
-loading_four held d p loads NoPlan ends failed = absurd ends
-loading_four held d p loads (BudgetReached n) ends failed = absurd ends
+before_four : (held : List ℕ → Option (List ℕ)) (d p : List ℕ) (loads : List Loading) (stop : Stop) → StopsTask held d p loads stop → IsTrue (last_failed loads) → stop_status stop ≡ 4
+before_four held d p loads stop (inl stops) failed = stop_four held (d ∷ p ∷ []) loads stop stops failed
+before_four held d p loads stop (inr reads) failed = absurd (both_found d p loads reads.read.noted failed)
 
 ends_four : (held : List ℕ → Option (List ℕ)) (request : Option Request) (loads : List Loading) (history : History) (outcome : Outcome) →
     Ends held request loads history outcome → IsTrue (last_failed loads) → status_of outcome ≡ 4
 ends_four held None loads history outcome ends failed = absurd (found_last loads [] ends.0 refl failed)
-ends_four held (Some (Plan d p b)) loads history outcome (inl (empty, ends)) failed = loading_four held d p loads outcome ends failed
-ends_four held (Some (Plan d p b)) loads history outcome (inr by_answer) failed =
-    absurd (found_last loads (found d ∷ found p ∷ []) by_answer.loaded.read.noted refl failed)
+ends_four held (Some (Plan d p b)) loads history outcome (inl before) failed =
+    ap status_of before.is ∙ before_four held d p loads before.stop before.stops failed
+ends_four held (Some (Plan d p b)) loads history outcome (inr behind) failed = absurd (both_found d p loads behind.loaded.read.noted failed)
+ends_four held (Some (Validate d p pl)) loads history outcome (empty, inl (stop, is, stops)) failed =
+    ap status_of is ∙ stop_four held (d ∷ p ∷ pl ∷ []) loads stop stops failed
+ends_four held (Some (Validate d p pl)) loads history outcome (empty, inr loaded) failed =
+    absurd (found_last loads (map found (d ∷ p ∷ pl ∷ [])) loaded.read.noted (all_found (d ∷ p ∷ pl ∷ [])) failed)
 
-pub failed_stands : {held : List ℕ → Option (List ℕ)} {request : Option Request} {log_before log_after : List Loading}
+failed_stands : {held : List ℕ → Option (List ℕ)} {request : Option Request} {log_before log_after : List Loading}
     {out_before out_after err_before err_after : Option (List ℕ)} {answer : ℕ} {history : History} →
-    Runs held request log_before log_after out_before out_after err_before err_after answer history →
-    IsTrue (last_failed (new_loads log_before log_after)) → Stands 4 answer
+    Runs held request log_before log_after out_before out_after err_before err_after answer history → IsTrue (last_failed (new_loads log_before log_after)) → Stands 4 answer
 failed_stands {held = held} {request = request} {log_before = before} {log_after = after} {answer = answer} {history = history} runs failed =
     let here : IsTrue (last_failed runs.loads) = subst (λ loads. IsTrue (last_failed loads)) (sym (new_loads_are before after runs.loads runs.logged)) failed in
     subst (λ status. Stands status answer) (ends_four held request runs.loads history runs.outcome runs.ends here) (stands runs.outcome runs.concludes)
 
 -- the text of a read fault
 
-loading_says : (held : List ℕ → Option (List ℕ)) (d p : List ℕ) (loads : List Loading) (outcome : Outcome) (ob oa eb ea : Option (List ℕ)) →
-    EndsLoading held d p loads outcome → Concluded outcome ob oa eb ea 4 → (oa ≡ ob) × SaysUnread loads eb ea
-loading_says held d p loads (CannotRead name) ob oa eb ea (inl (is, noted)) concluded =
-    (wrote_nothing ob oa concluded.out, subst (λ l. SaysUnread l eb ea) (sym noted) (subst (λ n. Appends (codes "cannot read " ++ n ++ codes "\n") eb ea) is concluded.err))
-loading_says held d p loads (CannotRead name) ob oa eb ea (inr (is, noted, read)) concluded =
-    (wrote_nothing ob oa concluded.out, subst (λ l. SaysUnread l eb ea) (sym noted) (subst (λ n. Appends (codes "cannot read " ++ n ++ codes "\n") eb ea) is concluded.err))
-loading_says held d p loads WordsRefused ob oa eb ea ends concluded = let four = concluded.decided in absurd (omega arith)
-loading_says held d p loads (TooLong name) ob oa eb ea ends concluded = let four = concluded.decided in absurd (omega arith)
-loading_says held d p loads (NotBuilt name) ob oa eb ea ends concluded = let four = concluded.decided in absurd (omega arith)
-loading_says held d p loads (PlanFound text) ob oa eb ea ends concluded = let four = concluded.decided in absurd (omega arith)
-loading_says held d p loads NoPlan ob oa eb ea ends concluded = let four = concluded.decided in absurd (omega arith)
-loading_says held d p loads (BudgetReached n) ob oa eb ea ends concluded = let four = concluded.decided in absurd (omega arith)
-loading_says held d p loads OutOfMemory ob oa eb ea ends concluded = let four = concluded.decided in absurd (omega arith)
+before_says : (held : List ℕ → Option (List ℕ)) (d p : List ℕ) (loads : List Loading) (stop : Stop) (ob oa eb ea : Option (List ℕ)) →
+    StopsTask held d p loads stop → Concluded (Stopped stop) ob oa eb ea 4 → (oa ≡ ob) × SaysUnread loads eb ea
+before_says held d p loads stop ob oa eb ea (inl stops) said =
+    (wrote_nothing ob oa said.out, stop_says held (d ∷ p ∷ []) loads stop eb ea stops said.decided said.err)
+before_says held d p loads stop ob oa eb ea (inr reads) said = absurd (reads_not_four d p reads.domain_bytes reads.problem_bytes stop reads.says said.decided)
 
 ends_says : (held : List ℕ → Option (List ℕ)) (request : Option Request) (loads : List Loading) (history : History) (outcome : Outcome) (ob oa eb ea : Option (List ℕ)) →
     Ends held request loads history outcome → Concluded outcome ob oa eb ea 4 → (oa ≡ ob) × SaysUnread loads eb ea
-ends_says held None loads history outcome ob oa eb ea ends concluded = absurd (refused_not_four outcome ends.2 concluded.decided)
-ends_says held (Some (Plan d p b)) loads history outcome ob oa eb ea (inl (empty, ends)) concluded = loading_says held d p loads outcome ob oa eb ea ends concluded
-ends_says held (Some (Plan d p b)) loads history outcome ob oa eb ea (inr by_answer) concluded =
-    absurd (answer_not_four by_answer.task b history outcome by_answer.ends concluded.decided)
+ends_says held None loads history outcome ob oa eb ea ends said = absurd (refused_not_four outcome ends.2 said.decided)
+ends_says held (Some (Plan d p b)) loads history outcome ob oa eb ea (inl before) said =
+    before_says held d p loads before.stop ob oa eb ea before.stops (subst (λ o. Concluded o ob oa eb ea 4) before.is said)
+ends_says held (Some (Plan d p b)) loads history outcome ob oa eb ea (inr behind) said = absurd (task_not_four behind.task b history outcome behind.ends said.decided)
+ends_says held (Some (Validate d p pl)) loads history outcome ob oa eb ea (empty, inl (stop, is, stops)) said =
+    let stopped : Concluded (Stopped stop) ob oa eb ea 4 = subst (λ o. Concluded o ob oa eb ea 4) is said in
+    (wrote_nothing ob oa stopped.out, stop_says held (d ∷ p ∷ pl ∷ []) loads stop eb ea stops stopped.decided stopped.err)
+ends_says held (Some (Validate d p pl)) loads history outcome ob oa eb ea (empty, inr loaded) said =
+    absurd (loaded_not_four held d p pl loads outcome loaded said.decided)
 
-pub four_says : {held : List ℕ → Option (List ℕ)} {request : Option Request} {log_before log_after : List Loading}
+four_says : {held : List ℕ → Option (List ℕ)} {request : Option Request} {log_before log_after : List Loading}
     {out_before out_after err_before err_after : Option (List ℕ)} {answer : ℕ} {history : History} →
-    Runs held request log_before log_after out_before out_after err_before err_after answer history →
-    answer ≡ 4 → (out_after ≡ out_before) × SaysUnread (new_loads log_before log_after) err_before err_after
+    Runs held request log_before log_after out_before out_after err_before err_after answer history → answer ≡ 4 → (out_after ≡ out_before) × SaysUnread (new_loads log_before log_after) err_before err_after
 four_says {held = held} {request = request} {log_before = before} {log_after = after} {out_before = ob} {out_after = oa} {err_before = eb} {err_after = ea} {history = history} runs four =
     subst (λ loads. (oa ≡ ob) × SaysUnread loads eb ea) (new_loads_are before after runs.loads runs.logged)
     (ends_says held request runs.loads history runs.outcome ob oa eb ea runs.ends (concluded runs.outcome 4 (omega arith) (omega arith) runs.concludes four))
+
+pub loads_files : {held : List ℕ → Option (List ℕ)} {request : Option Request} {log_before log_after : List Loading}
+    {out_before out_after err_before err_after : Option (List ℕ)} {answer : ℕ} {history : History} →
+    Runs held request log_before log_after out_before out_after err_before err_after answer history → LoadsFiles (files_of request) log_before log_after out_before out_after err_before err_after answer
+loads_files runs = record { log = log_grows runs; unread = four_failed runs; read_fault = failed_stands runs; unread_text = four_says runs }

@@ -1,9 +1,12 @@
 pub mod AnswerLemmas
 pub mod BegunLemmas
-pub mod BuiltLemmas
 pub mod CallLemmas
+pub mod ExactLemmas
+pub mod FileLemmas
 pub mod InputLemmas
 pub mod LoadLemmas
 pub mod RunLemmas
 pub mod SearchLemmas
+pub mod Statuses
+pub mod VerdictLemmas
 pub mod WordLemmas

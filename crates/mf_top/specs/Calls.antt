@@ -17,16 +17,20 @@ use Rattle.mf_plain.specs.declared.history.History.{History}
 use Rattle.mf_plain.specs.PlainSpace.{space_of}
 use Rattle.mf_plain.specs.Searches.{IsSearched, world_of}
 use Rattle.mf_top.specs.declared.request.Request.{Request}
-use Rattle.mf_top.specs.declared.request.Request.TheVariants.{Plan}
+use Rattle.mf_top.specs.declared.request.Request.TheVariants.{Plan, Validate}
 use Rattle.mf_top.specs.Loads.{greatest_length}
 use Rattle.mf_top.specs.Outcome.{no_history}
-use Rattle.mf_model.specs.Built.{IsTaskOfFiles}
-use Rattle.mf_top.specs.Loads.{IsBuiltDomain}
-use Rattle.mf_top.specs.Texts.{plan_text}
+use Rattle.mf_top.specs.Reading.{name_of}
+use Rattle.mf_input.specs.declared.refusal.Refusal.{Refusal}
+use Rattle.mf_input.specs.Files.{IsTaskOfFiles}
+use Rattle.mf_input.specs.Refusals.{IsRefusal}
+use Rattle.mf_plain.specs.PlainTask.{IsPlainTask}
+use Rattle.mf_top.specs.Texts.{plan_text, refusal_text, too_long_text, unread_text}
 
 -- a plan is asked for, within this budget, and the folder tells that the two files have these bytes
 abbrev pub Asks : (List ℕ → Option (List ℕ)) → Option Request → (domain problem : List ℕ) → ℕ → Type 0
 Asks held (Some (Plan domain_name problem_name n)) domain problem budget = (held domain_name ≡ Some domain) × (held problem_name ≡ Some problem) × (n ≡ budget)
+Asks held (Some (Validate domain_name problem_name plan_name)) domain problem budget = ⊥
 Asks held None domain problem budget = ⊥
 
 -- the fact holds of the bytes of the two files that are asked for, and of the budget, where the folder tells the bytes
@@ -39,11 +43,12 @@ Stands status answer = (answer ≡ status) ⊎ (answer ≡ 5) ⊎ (answer ≡ 8)
 
 -- a status that a call ends with
 abbrev pub IsStatus : ℕ → Type 0
-IsStatus answer = (answer ≡ 0) ⊎ (answer ≡ 1) ⊎ (answer ≡ 2) ⊎ (answer ≡ 3) ⊎ (answer ≡ 4) ⊎ (answer ≡ 5) ⊎ (answer ≡ 6) ⊎ (answer ≡ 8)
+IsStatus answer = (answer ≡ 0) ⊎ (answer ≡ 1) ⊎ (answer ≡ 2) ⊎ (answer ≡ 3) ⊎ (answer ≡ 4) ⊎ (answer ≡ 5) ⊎ (answer ≡ 6) ⊎ (answer ≡ 7) ⊎ (answer ≡ 8)
 
 -- the file names of the words
 abbrev pub files_of : Option Request → List (List ℕ)
 files_of (Some (Plan domain problem budget)) = domain ∷ problem ∷ []
+files_of (Some (Validate domain problem plan)) = domain ∷ problem ∷ plan ∷ []
 files_of None = []
 
 -- the loads of a call
@@ -75,7 +80,7 @@ pub record GrowsBy (names : List (List ℕ)) (before after : List Loading) : Typ
 -- `cannot read NAME` is written to err, of the name that was loaded last
 abbrev pub SaysUnread : List Loading → Option (List ℕ) → Option (List ℕ) → Type 0
 SaysUnread [] before after = ⊥
-SaysUnread (load ∷ []) before after = Appends (codes "cannot read " ++ load.name ++ codes "\n") before after
+SaysUnread (load ∷ []) before after = Appends (unread_text load.name) before after
 SaysUnread (load ∷ next ∷ loads) before after = SaysUnread (next ∷ loads) before after
 
 -- a task of the files has the plan that is written to out
@@ -100,23 +105,41 @@ pub record HasNoPlan (domain problem : List ℕ) : Type 0 where
   pub of_files : IsTaskOfFiles domain problem task
   pub none : (steps : List Instance) → IsPlan task steps → ⊥
 
--- the two files have no task: the domain is not of the built form, or else the problem isn't, or has no task with it
-abbrev pub NotOfForm : (domain problem : List ℕ) → Type 0
-NotOfForm domain problem =
-    (IsBuiltDomain domain → ⊥) ⊎ (IsBuiltDomain domain × ((task : TypedTask) → IsTaskOfFiles domain problem task → ⊥))
+-- no task of the two files is one that the search takes
+abbrev pub HasNoPlainTask : (domain problem : List ℕ) → Type 0
+HasNoPlainTask domain problem = (task : TypedTask) → IsTaskOfFiles domain problem task → IsPlainTask task → ⊥
 
--- a file is longer than allowed, or the two have no task
+-- a file is longer than allowed, or the two have no plain task
 abbrev pub IsRefusedInput : (domain problem : List ℕ) → Type 0
-IsRefusedInput domain problem = (greatest_length < length domain) ⊎ (greatest_length < length problem) ⊎ NotOfForm domain problem
+IsRefusedInput domain problem = (greatest_length < length domain) ⊎ (greatest_length < length problem) ⊎ HasNoPlainTask domain problem
 
--- the refusal of the input is written to err: length before form, and the domain before the problem
+-- the file is too long, which is written to err
+abbrev pub SaysTooLong : (name source : List ℕ) → Option (List ℕ) → Option (List ℕ) → Type 0
+SaysTooLong name source before after = (greatest_length < length source) × Appends (too_long_text name) before after
+
+-- the first refusal of the two files is written to err: the name of the file, the place and the kind; the files have no task
+pub record SaysFirstRefusal (domain_name problem_name : List ℕ) (domain problem : List ℕ) (before after : Option (List ℕ)) : Type 0 where
+  pub refusal : Refusal
+  pub first : IsRefusal domain problem refusal
+  pub none : (task : TypedTask) → IsTaskOfFiles domain problem task → ⊥
+  pub printed : Appends (refusal_text (name_of refusal.file domain_name problem_name) refusal) before after
+
+-- the files have a task that isn't plain, which is written to err
+pub record SaysNotBuilt (domain problem : List ℕ) (before after : Option (List ℕ)) : Type 0 where
+  pub task : TypedTask
+  pub of_files : IsTaskOfFiles domain problem task
+  pub not_plain : IsPlainTask task → ⊥
+  pub printed : Appends (codes "task: not built\n") before after
+
+-- the refusal of the input is written to err: lengths before contents, the domain before the problem, and what is wrong
+-- with a file before what the search doesn't take
 abbrev pub SaysRefused : Option Request → (domain problem : List ℕ) → Option (List ℕ) → Option (List ℕ) → Type 0
 SaysRefused (Some (Plan domain_name problem_name budget)) domain problem before after =
-    ((greatest_length < length domain) × Appends (domain_name ++ codes ": longer than 16777216 bytes\n") before after)
-    ⊎ ((length domain ≤ greatest_length) × (greatest_length < length problem) × Appends (problem_name ++ codes ": longer than 16777216 bytes\n") before after)
-    ⊎ ((length domain ≤ greatest_length) × (length problem ≤ greatest_length) × (IsBuiltDomain domain → ⊥) × Appends (domain_name ++ codes ": not built\n") before after)
-    ⊎ ((length domain ≤ greatest_length) × (length problem ≤ greatest_length) × IsBuiltDomain domain × ((task : TypedTask) → IsTaskOfFiles domain problem task → ⊥)
-    × Appends (problem_name ++ codes ": not built\n") before after)
+    SaysTooLong domain_name domain before after
+    ⊎ ((length domain ≤ greatest_length) × SaysTooLong problem_name problem before after)
+    ⊎ ((length domain ≤ greatest_length) × (length problem ≤ greatest_length) × SaysFirstRefusal domain_name problem_name domain problem before after)
+    ⊎ ((length domain ≤ greatest_length) × (length problem ≤ greatest_length) × SaysNotBuilt domain problem before after)
+SaysRefused (Some (Validate domain_name problem_name plan_name)) domain problem before after = ⊥
 SaysRefused None domain problem before after = ⊥
 
 -- the answers of a search
@@ -124,13 +147,13 @@ abbrev pub IsAnswer : ℕ → Type 0
 IsAnswer answer = (answer ≡ 0) ⊎ (answer ≡ 1) ⊎ (answer ≡ 6)
 
 -- the status that the answer of a search gives
-abbrev pub answer_status : Status → ℕ
-answer_status (status.Plan goal) = 0
-answer_status status.NoPlan = 1
-answer_status status.Budget = 6
-answer_status (status.Width state instance) = 7
-answer_status status.Running = 8
-answer_status status.Halted = 8
+abbrev pub search_status : Status → ℕ
+search_status (status.Plan goal) = 0
+search_status status.NoPlan = 1
+search_status status.Budget = 6
+search_status (status.Width state instance) = 7
+search_status status.Running = 8
+search_status status.Halted = 8
 
 -- a task of the files was searched for one worker: the history is legal, keeps what it opened, and has an answer, which gives
 -- the status, unless a put failed or memory was wanting
@@ -139,7 +162,7 @@ pub record IsHistoryOf (domain problem : List ℕ) (budget : ℕ) (history : His
   pub of_files : IsTaskOfFiles domain problem task
   pub answered : Status
   pub searched : IsSearched task budget (record { history = history; status = answered })
-  pub stands : Stands (answer_status answered) answer
+  pub stands : Stands (search_status answered) answer
 
 -- no search returned, and the history is empty; or it is that of a search
 abbrev pub IsEmptyOr : History → Type 0 → Type 0

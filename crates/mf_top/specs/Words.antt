@@ -1,11 +1,11 @@
--- What the words of a call ask for: `plan DOMAIN PROBLEM`, with `--budget N` where it is wanted, and `--heuristic goals`,
+-- What the words of a call ask for: `validate DOMAIN PROBLEM PLAN`, or `plan DOMAIN PROBLEM`, with `--budget N` where it is wanted, and `--heuristic goals`,
 -- in this order and as separate words.
 use Rattle.std.specs.Prelude.{ℕ, ◌+◌, ◌-◌, ◌*◌, ◌≤◌, Bool, ◌&&◌, if◌then◌else◌, nat_le, List, [], ◌∷◌, length, Option, Some, None, codes, bytes_eq}
 use Rattle.std.specs.Char.{is_ascii_digit}
 use Rattle.std.specs.Option.{option_map}
 use Rattle.std.specs.Str.{IsUtf8}
 use Rattle.mf_top.specs.declared.request.Request.{Request}
-use Rattle.mf_top.specs.declared.request.Request.TheVariants.{Plan}
+use Rattle.mf_top.specs.declared.request.Request.TheVariants.{Plan, Validate}
 
 abbrev pub default_budget : ℕ
 default_budget = 1000000
@@ -29,6 +29,9 @@ budget_of word = if nat_le 1 (length word) && nat_le (length word) 20 then in_ra
 abbrev pub is_plan : List ℕ → Bool
 is_plan word = bytes_eq word (codes "plan")
 
+abbrev pub is_validate : List ℕ → Bool
+is_validate word = bytes_eq word (codes "validate")
+
 abbrev pub is_budget : List ℕ → Bool
 is_budget word = bytes_eq word (codes "--budget")
 
@@ -38,14 +41,38 @@ asks_goals option value = bytes_eq option (codes "--heuristic") && bytes_eq valu
 abbrev pub plan_within : List ℕ → List ℕ → Option ℕ → Option Request
 plan_within domain problem budget = option_map (λ n. Plan domain problem n) budget
 
+-- the plan that the words ask for; nothing where they break the rule
+abbrev pub plan_request : List (List ℕ) → Option Request
+plan_request (command ∷ domain ∷ problem ∷ option ∷ value ∷ []) =
+    if is_plan command && asks_goals option value then Some (Plan domain problem default_budget) else None
+plan_request (command ∷ domain ∷ problem ∷ limit ∷ number ∷ option ∷ value ∷ []) =
+    if is_plan command && (is_budget limit && asks_goals option value) then plan_within domain problem (budget_of number) else None
+plan_request _ = None
+
+-- the judgement that the words ask for
+abbrev pub validate_request : List (List ℕ) → Option Request
+validate_request (command ∷ domain ∷ problem ∷ plan ∷ []) = if is_validate command then Some (Validate domain problem plan) else None
+validate_request _ = None
+
+abbrev pub either_request : Option Request → Option Request → Option Request
+either_request (Some request) other = Some request
+either_request None other = other
+
 -- what the words ask for; nothing where they break the rule
 abbrev pub request_of : List (List ℕ) → Option Request
-request_of (command ∷ domain ∷ problem ∷ option ∷ value ∷ []) =
-    if is_plan command && asks_goals option value then Some (Plan domain problem default_budget) else None
-request_of (command ∷ domain ∷ problem ∷ limit ∷ number ∷ option ∷ value ∷ []) =
-    if is_plan command && (is_budget limit && asks_goals option value) then plan_within domain problem (budget_of number) else None
-request_of _ = None
+request_of words = either_request (validate_request words) (plan_request words)
 
 -- a request that words can make: its file names are texts, and its budget lies in the range
 abbrev pub IsRequest : Request → Type 0
 IsRequest (Plan domain problem budget) = IsUtf8 domain × IsUtf8 problem × (1 ≤ budget) × (budget ≤ greatest_budget)
+IsRequest (Validate domain problem plan) = IsUtf8 domain × IsUtf8 problem × IsUtf8 plan
+
+-- a plan is asked for
+abbrev pub AsksPlan : Request → Type 0
+AsksPlan (Plan domain problem budget) = Unit {0}
+AsksPlan (Validate domain problem plan) = ⊥
+
+-- a judgement is asked for
+abbrev pub AsksJudgement : Request → Type 0
+AsksJudgement (Validate domain problem plan) = Unit {0}
+AsksJudgement (Plan domain problem budget) = ⊥

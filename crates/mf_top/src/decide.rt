@@ -1,21 +1,20 @@
-ghost use Rattle.std.specs.Prelude.{◌≡◌, ℕ, ◌≤◌, ◌⊎◌, ◌++◌, List, Some, length};
+ghost use Rattle.std.specs.Prelude.{◌≡◌, ℕ, ◌≤◌, ◌⊎◌, ◌++◌, List, Some, IfOk};
 ghost use Rattle.std.specs.Str.{IsUtf8};
 ghost use Rattle.mf_io.specs.declared.folder.Loading.{Loading};
-ghost use Rattle.mf_model.specs.Plain.{IsPlainTask};
+ghost use Rattle.mf_plain.specs.PlainTask.{IsPlainTask};
 ghost use Rattle.mf_plain.specs.Searches.{IsSearched};
 ghost use Rattle.mf_search.specs.declared.status.Status.TheVariants as status;
-ghost use Rattle.mf_top.specs.declared.outcome.Outcome.TheVariants.{NotBuilt, OutOfMemory};
-ghost use Rattle.mf_top.specs.Loads.{greatest_length};
+ghost use Rattle.mf_top.specs.declared.outcome.Outcome.TheVariants.{Stopped};
 ghost use Rattle.mf_top.specs.Words.{IsRequest};
-ghost use Rattle.mf_top.specs.Outcome.{no_history, LoadsTask, EndsSearch, Ends, EndsPlan, ReadsTask, GivesPlan};
+ghost use Rattle.mf_top.specs.Outcome.{no_history, IsPlanText, IsAnswerOf, EndsSearch, EndsTask, EndsPlan, Ends};
 
-use crate::load::load_file;
+use crate::judging::decide_validate;
+use crate::reading::load_task;
 use crate::texts::plan_text;
-use crate::{Outcome, Request};
-use mf_built::{BuiltFault, read_built};
-use mf_io::Folder;
-use mf_model::{FileKind, List, Text, TypedTask};
-use mf_plain::{History, Searched, Status, TraceFault, plan_of, search};
+use crate::{Answer, Outcome, Request, Stop};
+use mf_io::{Folder, Memory};
+use mf_model::{List, Text, TypedTask};
+use mf_plain::{History, Searched, Status, TraceFault, is_plain, plan_of, search};
 use std::alloc::Global;
 
 /// An outcome, and the history of its search.
@@ -37,74 +36,50 @@ pub(crate) fn no_history(alloc: Global) -> History
     }
 }
 
-// The file of this name is not built, unless memory is wanting.
-fn not_built(alloc: Global, name: &Text) -> Outcome
-    ensures { (result ≡ NotBuilt name.now) ⊎ (result ≡ OutOfMemory) }
+/// No search returned, and this is why.
+pub(crate) fn stopped(alloc: Global, stop: Stop) -> Decided
+    ensures outcome { result.outcome ≡ Stopped stop }
+    ensures history { result.history ≡ no_history }
 {
-    match name.copy(alloc) {
-        Ok(name) => Outcome::NotBuilt { name },
-        Err(_) => Outcome::OutOfMemory,
+    Decided {
+        outcome: Outcome::Stopped { stop },
+        history: no_history(alloc),
     }
 }
 
-// The task of the bytes of two files, or the outcome that ends the call.
-fn read_task(
-    alloc: Global,
-    domain: &Text,
-    problem: &Text,
-    domain_bytes: &[u8],
-    problem_bytes: &[u8],
-) -> Result<TypedTask, Outcome>
-    requires domain_size { length domain_bytes.now ≤ greatest_length }
-    requires problem_size { length problem_bytes.now ≤ greatest_length }
-    ensures { ReadsTask domain.now problem.now domain_bytes.now problem_bytes.now result }
-{
-    match read_built(alloc, domain_bytes, problem_bytes) {
-        Ok(task) => Ok(task),
-        Err(BuiltFault::NotBuilt { file }) => match file {
-            FileKind::DomainFile => Err(not_built(alloc, domain)),
-            FileKind::ProblemFile => Err(not_built(alloc, problem)),
-        },
-        Err(BuiltFault::Memory) => Err(Outcome::OutOfMemory),
-    }
-}
-
-// The task of the two files, or the outcome that ends the call.
-fn load_task<F: Folder>(
-    alloc: Global,
-    domain: &Text,
-    problem: &Text,
-    files: &mut F,
-) -> Result<TypedTask, Outcome>
-    requires domain { IsUtf8 domain.now }
-    requires problem { IsUtf8 problem.now }
-    ensures { (loads : List Loading) × (F.log files.new ≡ F.log files.old ++ loads) × LoadsTask (F.held files.old) domain.now problem.now loads result }
-{
-    let domain_bytes = load_file(alloc, domain, files)?;
-    let problem_bytes = load_file(alloc, problem, files)?;
-    read_task(
-        alloc,
-        domain,
-        problem,
-        domain_bytes.as_slice(),
-        problem_bytes.as_slice(),
-    )
-}
-
-// The plan of a search that took a goal.
-fn plan_found(alloc: Global, task: &TypedTask, searched: &Searched) -> Outcome
+// The plan of a search that took a goal, as a text.
+fn plan_found(alloc: Global, task: &TypedTask, searched: &Searched) -> Result<Text, Memory>
     requires plain { IsPlainTask task.now }
     requires searched { (budget : ℕ) × IsSearched task.now budget searched.now }
     requires goal { (goal : ℕ) × (searched.now.status ≡ status.Plan goal) }
-    ensures { GivesPlan task.now searched.now result }
+    ensures { IfOk result (IsPlanText task.now searched.now) }
 {
     match plan_of(alloc, task, searched) {
-        Ok(steps) => match plan_text(alloc, task, steps.as_slice()) {
-            Ok(text) => Outcome::PlanFound { text },
-            Err(_) => Outcome::OutOfMemory,
-        },
+        Ok(steps) => plan_text(alloc, task, steps.as_slice()),
         Err(TraceFault::NotFound) => unreachable!(),
-        Err(TraceFault::Memory) => Outcome::OutOfMemory,
+        Err(TraceFault::Memory) => Err(Memory),
+    }
+}
+
+// What a search that returned answers.
+fn answer_of(
+    alloc: Global,
+    task: &TypedTask,
+    budget: u64,
+    searched: &Searched,
+) -> Result<Answer, Memory>
+    requires plain { IsPlainTask task.now }
+    requires searched { IsSearched task.now budget searched.now }
+    ensures { IfOk result (IsAnswerOf task.now budget searched.now.history) }
+{
+    match searched.status {
+        Status::Plan { .. } => match plan_found(alloc, task, searched) {
+            Ok(text) => Ok(Answer::PlanFound { text }),
+            Err(memory) => Err(memory),
+        },
+        Status::NoPlan => Ok(Answer::NoPlan),
+        Status::Budget => Ok(Answer::BudgetReached { expansions: budget }),
+        Status::Running | Status::Halted | Status::Width { .. } => unreachable!(),
     }
 }
 
@@ -114,11 +89,11 @@ fn outcome_of(alloc: Global, task: &TypedTask, budget: u64, searched: &Searched)
     requires searched { IsSearched task.now budget searched.now }
     ensures { EndsSearch task.now budget searched.now.history result }
 {
-    match searched.status {
-        Status::Plan { .. } => plan_found(alloc, task, searched),
-        Status::NoPlan => Outcome::NoPlan,
-        Status::Budget => Outcome::BudgetReached { expansions: budget },
-        Status::Running | Status::Halted | Status::Width { .. } => unreachable!(),
+    match answer_of(alloc, task, budget, searched) {
+        Ok(answer) => Outcome::Answered { answer },
+        Err(_) => Outcome::Stopped {
+            stop: Stop::OutOfMemory,
+        },
     }
 }
 
@@ -133,10 +108,19 @@ fn solve(alloc: Global, task: &TypedTask, budget: u64) -> Decided
             outcome: outcome_of(alloc, task, budget, &searched),
             history: searched.history,
         },
-        Err(_) => Decided {
-            outcome: Outcome::OutOfMemory,
-            history: no_history(alloc),
-        },
+        Err(_) => stopped(alloc, Stop::OutOfMemory),
+    }
+}
+
+// Searches for a plan of the task, if it is plain.
+fn decide_task(alloc: Global, task: &TypedTask, budget: u64) -> Decided
+    requires { 1 ≤ budget }
+    ensures { EndsTask task.now budget result.history result.outcome }
+{
+    if is_plain(task) {
+        solve(alloc, task, budget)
+    } else {
+        stopped(alloc, Stop::NotBuilt)
     }
 }
 
@@ -155,11 +139,8 @@ fn decide_plan<F: Folder>(
         × EndsPlan (F.held files.old) domain.now problem.now budget loads result.history result.outcome }
 {
     match load_task(alloc, domain, problem, files) {
-        Ok(task) => solve(alloc, &task, budget),
-        Err(outcome) => Decided {
-            outcome,
-            history: no_history(alloc),
-        },
+        Ok(task) => decide_task(alloc, &task, budget),
+        Err(stop) => stopped(alloc, stop),
     }
 }
 
@@ -175,5 +156,13 @@ pub(crate) fn decide<F: Folder>(alloc: Global, request: &Request, files: &mut F)
             problem,
             budget,
         } => decide_plan(alloc, domain, problem, *budget, files),
+        Request::Validate {
+            domain,
+            problem,
+            plan,
+        } => Decided {
+            outcome: decide_validate(alloc, domain, problem, plan, files),
+            history: no_history(alloc),
+        },
     }
 }

@@ -4,15 +4,19 @@
 mod command;
 mod decide;
 mod deliver;
+mod judging;
+mod kinds;
 mod load;
 mod outcome;
+mod reading;
 mod request;
 #[cfg(test)]
 mod tests;
 mod texts;
+mod verdicts;
 mod words;
 
-pub use command::{Ended, plan_one, run};
+pub use command::{Ended, plan_one, run, validate};
 pub use load::GREATEST_LENGTH;
-pub use outcome::Outcome;
+pub use outcome::{Answer, Judgement, Outcome, PlanFlaw, Stop};
 pub use request::Request;

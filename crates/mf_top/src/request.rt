@@ -9,4 +9,10 @@ pub enum Request {
         problem: Text,
         budget: u64,
     },
+    /// Judge the plan of a plan file by the task of a domain file and a problem file.
+    Validate {
+        domain: Text,
+        problem: Text,
+        plan: Text,
+    },
 }

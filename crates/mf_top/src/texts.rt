@@ -1,9 +1,12 @@
 ghost use Rattle.std.specs.Prelude.{◌≡◌, ◌++◌, OnOk, IfOk, codes};
 ghost use Rattle.std.specs.List.{flat_map};
 ghost use Rattle.std.specs.Fmt.{decimal};
-ghost use Rattle.mf_top.specs.Texts.{action_name, object_name, object_text, step_text, plan_text, out_text, err_text};
+ghost use Rattle.mf_top.specs.Texts.{action_name, object_name, object_text, step_text, plan_text, answer_text, refusal_text, plan_refusal_text, stop_text, out_text, err_text};
 
-use crate::Outcome;
+use crate::kinds::{flaw_text, kind_text};
+use crate::verdicts::judgement_text;
+use crate::{Answer, Outcome, PlanFlaw, Stop};
+use mf_input::Refusal;
 use mf_io::Memory;
 use mf_model::{Action, Instance, Object, Text, TypedTask};
 use std::alloc::Global;
@@ -26,7 +29,7 @@ fn action_name(actions: &[Action], number: u16) -> &[u8]
     }
 }
 
-fn write_number(alloc: Global, number: u64, text: &mut Text) -> Result<(), Memory>
+pub(crate) fn write_number(alloc: Global, number: u64, text: &mut Text) -> Result<(), Memory>
     ensures { OnOk result (text.new ≡ text.old ++ decimal number) }
 {
     let digits = number.to_string(alloc)?;
@@ -91,6 +94,32 @@ fn budget_text(alloc: Global, expansions: u64) -> Result<Text, Memory>
     Ok(text)
 }
 
+// The file, the place and the kind of a refusal.
+fn refusal_text(alloc: Global, name: &[u8], refusal: &Refusal) -> Result<Text, Memory>
+    ensures { IfOk result (λ text. text ≡ refusal_text name.now refusal.now) }
+{
+    let mut text = Text::from_slice(alloc, name)?;
+    text.push(b':')?;
+    write_number(alloc, u64::from(refusal.at), &mut text)?;
+    text.extend(b": ")?;
+    text.extend(kind_text(refusal.kind))?;
+    text.push(b'\n')?;
+    Ok(text)
+}
+
+// The file, the line and the flaw of a plan that is refused.
+fn plan_refusal_text(alloc: Global, name: &[u8], flaw: PlanFlaw, line: u32) -> Result<Text, Memory>
+    ensures { IfOk result (λ text. text ≡ plan_refusal_text name.now flaw line) }
+{
+    let mut text = Text::from_slice(alloc, name)?;
+    text.push(b':')?;
+    write_number(alloc, u64::from(line), &mut text)?;
+    text.extend(b": ")?;
+    text.extend(flaw_text(flaw))?;
+    text.push(b'\n')?;
+    Ok(text)
+}
+
 fn joined(alloc: Global, first: &[u8], second: &[u8], third: &[u8]) -> Result<Text, Memory>
     ensures { IfOk result (λ text. text ≡ first.now ++ second.now ++ third.now) }
 {
@@ -100,19 +129,46 @@ fn joined(alloc: Global, first: &[u8], second: &[u8], third: &[u8]) -> Result<Te
     Ok(text)
 }
 
+// What an answer writes to out.
+fn answer_text(alloc: Global, answer: &Answer) -> Result<Text, Memory>
+    ensures { IfOk result (λ text. text ≡ answer_text answer.now) }
+{
+    match answer {
+        Answer::PlanFound { text } => Ok(text.copy(alloc)?),
+        Answer::NoPlan => Ok(Text::from_slice(alloc, b"no plan\n")?),
+        Answer::BudgetReached { expansions } => budget_text(alloc, *expansions),
+    }
+}
+
 /// What an outcome writes to out.
 pub(crate) fn out_text(alloc: Global, outcome: &Outcome) -> Result<Text, Memory>
     ensures { IfOk result (λ text. text ≡ out_text outcome.now) }
 {
     match outcome {
-        Outcome::PlanFound { text } => Ok(text.copy(alloc)?),
-        Outcome::NoPlan => Ok(Text::from_slice(alloc, b"no plan\n")?),
-        Outcome::BudgetReached { expansions } => budget_text(alloc, *expansions),
-        Outcome::WordsRefused
-        | Outcome::CannotRead { .. }
-        | Outcome::TooLong { .. }
-        | Outcome::NotBuilt { .. }
-        | Outcome::OutOfMemory => Ok(Text::new(alloc)),
+        Outcome::Answered { answer } => answer_text(alloc, answer),
+        Outcome::Judged { judgement } => judgement_text(alloc, judgement),
+        Outcome::WordsRefused | Outcome::Stopped { .. } => Ok(Text::new(alloc)),
+    }
+}
+
+// What a stop writes to err.
+fn stop_text(alloc: Global, stop: &Stop) -> Result<Text, Memory>
+    ensures { IfOk result (λ text. text ≡ stop_text stop.now) }
+{
+    match stop {
+        Stop::CannotRead { name } => joined(alloc, b"cannot read ", name.as_slice(), b"\n"),
+        Stop::TooLong { name } => joined(
+            alloc,
+            b"",
+            name.as_slice(),
+            b": longer than 16777216 bytes\n",
+        ),
+        Stop::Refused { name, refusal } => refusal_text(alloc, name.as_slice(), refusal),
+        Stop::PlanRefused { name, flaw, line } => {
+            plan_refusal_text(alloc, name.as_slice(), *flaw, *line)
+        }
+        Stop::NotBuilt => Ok(Text::from_slice(alloc, b"task: not built\n")?),
+        Stop::OutOfMemory => Ok(Text::new(alloc)),
     }
 }
 
@@ -122,17 +178,7 @@ pub(crate) fn err_text(alloc: Global, outcome: &Outcome) -> Result<Text, Memory>
 {
     match outcome {
         Outcome::WordsRefused => Ok(Text::from_slice(alloc, b"words refused\n")?),
-        Outcome::CannotRead { name } => joined(alloc, b"cannot read ", name.as_slice(), b"\n"),
-        Outcome::TooLong { name } => joined(
-            alloc,
-            b"",
-            name.as_slice(),
-            b": longer than 16777216 bytes\n",
-        ),
-        Outcome::NotBuilt { name } => joined(alloc, b"", name.as_slice(), b": not built\n"),
-        Outcome::PlanFound { .. }
-        | Outcome::NoPlan
-        | Outcome::BudgetReached { .. }
-        | Outcome::OutOfMemory => Ok(Text::new(alloc)),
+        Outcome::Stopped { stop } => stop_text(alloc, stop),
+        Outcome::Answered { .. } | Outcome::Judged { .. } => Ok(Text::new(alloc)),
     }
 }

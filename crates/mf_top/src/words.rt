@@ -1,6 +1,6 @@
 ghost use Rattle.std.specs.Prelude.{◌≡◌, ◌≤◌, map, IfOk, IfSome, string_bytes};
-ghost use Rattle.mf_top.specs.declared.request.Request.TheVariants.{Plan};
-ghost use Rattle.mf_top.specs.Words.{budget_of, request_of, asks_goals, greatest_budget, IsRequest};
+ghost use Rattle.mf_top.specs.declared.request.Request.TheVariants.{Plan, Validate};
+ghost use Rattle.mf_top.specs.Words.{budget_of, plan_request, validate_request, request_of, asks_goals, greatest_budget, IsRequest};
 
 use crate::Request;
 use mf_model::Text;
@@ -55,9 +55,26 @@ fn plan_within(
     }))
 }
 
-// What the words ask for, if they keep the rule.
-pub(crate) fn read_words(alloc: Global, words: &[String]) -> Result<Option<Request>, AllocError>
-    ensures value { IfOk result (λ request. request ≡ request_of (map string_bytes words.now)) }
+// The request to judge a plan file.
+fn validate_of(
+    alloc: Global,
+    domain: &String,
+    problem: &String,
+    plan: &String,
+) -> Result<Option<Request>, AllocError>
+    ensures value { IfOk result (λ request. request ≡ Some (Validate (string_bytes domain.now) (string_bytes problem.now) (string_bytes plan.now))) }
+    ensures valid { IfOk result (λ request. IfSome request IsRequest) }
+{
+    Ok(Some(Request::Validate {
+        domain: Text::from_slice(alloc, domain.as_str().as_bytes())?,
+        problem: Text::from_slice(alloc, problem.as_str().as_bytes())?,
+        plan: Text::from_slice(alloc, plan.as_str().as_bytes())?,
+    }))
+}
+
+// The plan that the words ask for, if they ask for one.
+fn read_plan_words(alloc: Global, words: &[String]) -> Result<Option<Request>, AllocError>
+    ensures value { IfOk result (λ request. request ≡ plan_request (map string_bytes words.now)) }
     ensures valid { IfOk result (λ request. IfSome request IsRequest) }
 {
     match words {
@@ -75,5 +92,29 @@ pub(crate) fn read_words(alloc: Global, words: &[String]) -> Result<Option<Reque
             }
         }
         _ => Ok(None),
+    }
+}
+
+// The judgement that the words ask for, if they ask for one.
+fn read_validate_words(alloc: Global, words: &[String]) -> Result<Option<Request>, AllocError>
+    ensures value { IfOk result (λ request. request ≡ validate_request (map string_bytes words.now)) }
+    ensures valid { IfOk result (λ request. IfSome request IsRequest) }
+{
+    match words {
+        [command, domain, problem, plan] if command.as_str() == "validate" => {
+            validate_of(alloc, domain, problem, plan)
+        }
+        _ => Ok(None),
+    }
+}
+
+// What the words ask for, if they keep the rule.
+pub(crate) fn read_words(alloc: Global, words: &[String]) -> Result<Option<Request>, AllocError>
+    ensures value { IfOk result (λ request. request ≡ request_of (map string_bytes words.now)) }
+    ensures valid { IfOk result (λ request. IfSome request IsRequest) }
+{
+    match read_validate_words(alloc, words)? {
+        Some(request) => Ok(Some(request)),
+        None => read_plan_words(alloc, words),
     }
 }

@@ -1,9 +1,0 @@
-use Rattle.std.proofs.Common.{◌≡◌, drop, map}
-use Rattle.mf_model.specs.Options.{all_some}
-use Rattle.mf_model.specs.Resolution.{cond_of}
-use Rattle.mf_built.specs.Tables.{seen_declared}
-use Rattle.mf_built.specs.Gives.{with_front}
-use Rattle.mf_built.proofs.compound.+condition.Given as goal
-
-abbrev pub invariant-conditions-loop-raw : goal.invariant-conditions-loop-raw
-invariant-conditions-loop-raw l = with_front l.out (all_some (map (cond_of (seen_declared l.declared) l.variables) (drop l.raw-index l.raws))) ≡ all_some (map (cond_of (seen_declared l.declared) l.variables) l.raws)

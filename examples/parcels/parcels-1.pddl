@@ -1,0 +1,8 @@
+(define (problem parcels-1) (:domain parcels)
+ (:objects t1 - truck v1 - van x1 x2 - parcel s1 s2 - shop)
+ (:init (at t1 hub) (at v1 s1) (at x1 hub) (at x2 s1)
+  (road hub s1) (road s1 hub) (road s1 s2) (road s2 s1)
+  (= (length hub s1) 2) (= (length s1 hub) 2) (= (length s1 s2) 3) (= (length s2 s1) 3)
+  (= (fuel t1) 10) (= (tank t1) 10) (= (fuel v1) 4) (= (tank v1) 4) (= (total-cost) 0))
+ (:goal (and (forall (?x - parcel) (at ?x s2)) (exists (?x - parcel) (seen ?x s1))))
+ (:metric minimize (total-cost)))
