@@ -50,8 +50,8 @@ pub children_more : (task : TypedTask) (os : List (Opened PlainState)) (taken : 
 children_more task os taken p done s progress t = rw (map_push child_of done s, open_more (space_of task) p (map child_of done) (child_of s) os) t
 
 -- The state of number i is expanded.
-pub state_expanded : (task : TypedTask) (os : List (Opened PlainState)) (taken : List ℕ) (i : ℕ) (instances : List Instance) (rows : List PlainState) (row : PlainState) (children : List Successor) (before after : Progress) → instances ≡ instances_of task → rows ≡ before.history.rows → i < length before.history.rows → row ≡ get_or rows i row → map child_of children ≡ children_from task row 0 instances → Tracks os taken before → Tracks (open_all (space_of task) i (map child_of children) os) taken after → Tracks (open_all (space_of task) i (children_in task (at (space_of task) os i).state) os) taken after
-state_expanded task os taken i instances rows row children before after listed same h e found t opened =
+pub state_expanded : (task : TypedTask) (os : List (Opened PlainState)) (taken : List ℕ) (i : ℕ) (instances : List Instance) (rows : List PlainState) (parent : PlainState) (children : List Successor) (before after : Progress) → instances ≡ instances_of task → rows ≡ before.history.rows → i < length before.history.rows → parent ≡ get_or rows i parent → map child_of children ≡ children_from task parent 0 instances → Tracks os taken before → Tracks (open_all (space_of task) i (map child_of children) os) taken after → Tracks (open_all (space_of task) i (children_in task (at (space_of task) os i).state) os) taken after
+state_expanded task os taken i instances rows parent children before after listed same h e found t opened =
     let within : i < length os = rw (← length-map os (λ (o : Opened PlainState). o.state), ← t.states_are) h in
-    let here : (at (space_of task) os i).state ≡ row = state_at (space_of task) os taken before.history.rows before.history.values before.history.makers before.taken.items i row t within ∙ ap (λ (xs : List PlainState). get_or xs i row) (sym same) ∙ sym e in
+    let here : (at (space_of task) os i).state ≡ parent = state_at (space_of task) os taken before.history.rows before.history.values before.history.makers before.taken.items i parent t within ∙ ap (λ (xs : List PlainState). get_or xs i parent) (sym same) ∙ sym e in
     rw (here, ← listed, ← found) opened
