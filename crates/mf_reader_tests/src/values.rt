@@ -2,7 +2,9 @@ use crate::files::{domain, problem};
 use std::alloc::Global;
 
 const DOMAIN: &[u8] = b"(define (domain Haul)
- (:requirements :strips :typing :numeric-fluents :adl)
+ (:requirements :strips :typing :negative-preconditions :disjunctive-preconditions :equality
+  :existential-preconditions :universal-preconditions :quantified-preconditions :conditional-effects
+  :fluents :numeric-fluents :action-costs :adl)
  (:types truck - vehicle place vehicle)
  (:constants depot - place spare)
  (:predicates (at ?v - vehicle ?p - (either place depot)) (ready) (preference ?x))
