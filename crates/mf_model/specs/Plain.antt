@@ -1,6 +1,6 @@
--- Plain tasks: untyped actions whose conditions are atoms or conjunctions of atoms, and whose effects
--- add and delete atoms (the STRIPS fragment of PDDL 2.1: Fox and Long, JAIR 2003, section 2).
-use Rattle.std.specs.Prelude.{◌≡◌, ℕ, ◌≤◌, Bool, true, false, ◌&&◌, IsTrue, List, [], ◌∷◌, length, Option, Some, None, slice_get, nat_lt, nat_eq, codes, All}
+-- The parts of plain tasks: conditions that are atoms or conjunctions of atoms, and effects that add and
+-- delete atoms (the STRIPS fragment of PDDL 2.1: Fox and Long, JAIR 2003, section 2).
+use Rattle.std.specs.Prelude.{◌≡◌, ℕ, ◌≤◌, Bool, true, false, ◌&&◌, IsTrue, List, [], ◌∷◌, length, Option, Some, None, slice_get, nat_lt, nat_eq, All}
 use Rattle.mf_model.specs.declared.task.Term.{Term}
 use Rattle.mf_model.specs.declared.task.Term.TheVariants.{Variable, Object}
 use Rattle.mf_model.specs.declared.task.Cond.{Cond, fold-Cond}
@@ -10,7 +10,6 @@ use Rattle.mf_model.specs.declared.task.Effect.TheOpen.{Effect-F}
 use Rattle.mf_model.specs.declared.task.Symbol.{Symbol}
 use Rattle.mf_model.specs.declared.task.Action.{Action}
 use Rattle.mf_model.specs.declared.task.Atom.{Atom}
-use Rattle.mf_model.specs.declared.task.TypedTask.{TypedTask}
 
 -- every test of a list
 abbrev pub all_true : List Bool → Bool
@@ -58,7 +57,7 @@ plain_effect_step predicates variables objects _ = false
 abbrev pub is_plain_effect : List Symbol → (variables objects : ℕ) → Effect → Bool
 is_plain_effect predicates variables objects = fold-Effect Bool (plain_effect_step predicates variables objects)
 
--- the one declared type of each parameter and each object of a plain task
+-- the one declared type of each parameter of a plain task
 abbrev pub IsObjectType : List ℕ → Type 0
 IsObjectType types = types ≡ 0 ∷ []
 
@@ -76,17 +75,3 @@ pub record IsPlainAction (predicates : List Symbol) (objects : ℕ) (action : Ac
 abbrev pub is_plain_fact : List Symbol → (objects : ℕ) → Atom → Bool
 is_plain_fact predicates objects atom =
     has_count (slice_get predicates atom.predicate) (length atom.objects) && are_below objects atom.objects
-
-pub record IsPlainTask (task : TypedTask) : Type 0 where
-  pub types : task.types ≡ record { name = codes "object"; parent = 0 } ∷ []
-  pub object_types : All (λ object. IsObjectType object.types) task.objects
-  pub object_limit : length task.objects ≤ 65535
-  pub predicates : All IsPlainSymbol task.predicates
-  pub predicate_limit : length task.predicates ≤ 10000
-  pub functions : task.functions ≡ []
-  pub actions : All (IsPlainAction task.predicates (length task.objects)) task.actions
-  pub action_limit : length task.actions ≤ 1000
-  pub atoms : All (λ atom. IsTrue (is_plain_fact task.predicates (length task.objects) atom)) task.atoms
-  pub values : task.values ≡ []
-  pub goal : IsTrue (is_plain_cond task.predicates 0 (length task.objects) task.goal)
-  pub metric : task.metric ≡ None
