@@ -1,4 +1,4 @@
-use crate::{List, Op, Relation, Span, Text};
+use crate::{List, Op, Relation, SharedList, Span, Text};
 use sqlite_items::{Boxed, Items};
 
 /// A word of a file, folded to lower case, with its place.
@@ -12,7 +12,7 @@ pub struct Word {
 #[derive(Debug, Drop)]
 pub struct Typed {
     pub word: Word,
-    pub types: List<Word>,
+    pub types: SharedList<Word>,
 }
 
 /// The declaration of a predicate or a function.

@@ -3,6 +3,7 @@
 
 mod form;
 mod list;
+mod shared_list;
 mod state;
 mod task;
 mod text;
@@ -15,6 +16,7 @@ pub use form::{
     Typed, Word,
 };
 pub use list::List;
+pub use shared_list::SharedList;
 pub use state::{Instance, PlainState};
 pub use task::{
     Action, Atom, Cell, Cond, Effect, Expr, Metric, Object, Op, Relation, Symbol, Term, TypeName,

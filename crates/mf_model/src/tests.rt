@@ -1,4 +1,4 @@
-use crate::{List, Text};
+use crate::{List, SharedList, Text};
 use std::test::Fail;
 
 #[test]
@@ -16,6 +16,18 @@ fn lists_grow(rt: HostRuntime) -> Result<(), Fail> {
     assert_eq!(rt; list.into_vec().len(), 5);
     let empty: List<u16> = List::new(alloc);
     assert!(rt; empty.is_empty());
+    Ok(())
+}
+
+#[test]
+fn lists_are_shared(rt: HostRuntime) -> Result<(), Fail> {
+    let alloc = rt.alloc();
+    let one = SharedList::from_list(List::from_slice(alloc, &[1u16, 2])?)?;
+    let other = one.share()?;
+    drop(one);
+    assert_eq!(rt; other.as_slice(), [1u16, 2].as_slice());
+    assert_eq!(rt; other.len(), 2);
+    assert!(rt; !other.is_empty());
     Ok(())
 }
 

@@ -6,8 +6,8 @@ ghost use Rattle.mf_reader.specs.Seen.{seen};
 ghost use Rattle.mf_reader.specs.Typed as spec;
 
 use crate::fault::FormFault;
-use crate::words::{has_text, name, span_of, variable, word};
-use mf_model::{List, Span, Tree, Typed, Word};
+use crate::words::{has_text, name, span_of, variable};
+use mf_model::{List, SharedList, Span, Tree, Typed, Word};
 use std::alloc::Global;
 use std::mem::replace;
 
@@ -122,25 +122,14 @@ fn item_types(alloc: Global, listed: Listed, tree: &Tree) -> Result<List<Word>, 
     }
 }
 
-/// Words of their own.
-fn copies(alloc: Global, words: &[Word]) -> Result<List<Word>, FormFault>
-    ensures { Gives result (said words.now) }
+/// Words as items of these types, which they share.
+fn with_types(alloc: Global, types: List<Word>, words: List<Word>) -> Result<List<Typed>, FormFault>
+    ensures { Gives result (said (spec.with_types types words)) }
 {
-    let mut out = List::new(alloc);
-    for own in words {
-        let copy = word(alloc, &own.text, own.span)?;
-        out.push(copy)?;
-    }
-    Ok(out)
-}
-
-/// Words as items of these types.
-fn with_types(alloc: Global, types: &[Word], words: List<Word>) -> Result<List<Typed>, FormFault>
-    ensures { Gives result (said (spec.with_types types.now words)) }
-{
+    let shared = SharedList::from_list(types)?;
     let mut out = List::new(alloc);
     for word in words.into_vec() {
-        let types = copies(alloc, types)?;
+        let types = shared.share()?;
         out.push(Typed { word, types })?;
     }
     Ok(out)
@@ -173,7 +162,7 @@ fn end_group<'a>(
     }
     let types = item_types(alloc, listed, tree)?;
     let words = replace(&mut groups.open, List::new(alloc));
-    let group = with_types(alloc, types.as_slice(), words)?;
+    let group = with_types(alloc, types, words)?;
     groups.done.append(group)?;
     Ok(rest)
 }
@@ -215,8 +204,7 @@ pub(crate) fn typed_list(
         items = read_item(alloc, listed, &mut groups, item, behind)?;
     }
     let Groups { mut done, open } = groups;
-    let untyped = List::new(alloc);
-    let last = with_types(alloc, untyped.as_slice(), open)?;
+    let last = with_types(alloc, List::new(alloc), open)?;
     done.append(last)?;
     Ok(done)
 }
