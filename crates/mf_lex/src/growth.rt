@@ -10,11 +10,22 @@ use mf_model::{Kind, List, Span, Text, Token, Tree};
 use sqlite_items::Items;
 use std::alloc::{AllocError, Global};
 
+/// The number of items from which on a list is shrunk where it lies.
+const LONG: usize = 256;
+
 /// A list that is open: where its `(` stands, and its items so far.
 #[derive(Drop)]
 pub struct Frame {
     pub start: u32,
     pub items: List<Tree>,
+}
+
+/// The open lists around the innermost one, the innermost last, and vectors to keep the items of
+/// other lists in.
+#[derive(Drop)]
+pub struct Lists {
+    pub below: List<Frame>,
+    pub spare: List<List<Tree>>,
 }
 
 /// What a token leads to: the innermost open list, or the whole tree.
@@ -35,25 +46,24 @@ pub fn grown_tree(
     ensures { Gives result (tree_of source.now length tokens.now) }
 {
     match tokens {
-        [first, others @ ..] => match first.kind {
+        [first, others @ ..] => match first.kind() {
             Kind::Left => {
-                let top = new_frame(alloc, first);
+                let top = new_frame(first, List::new(alloc));
                 grow(alloc, source, others, top, length)
             }
-            _ => Err(TreeFault::Unbalanced {
-                at: first.span.start,
-            }),
+            _ => Err(TreeFault::Unbalanced { at: first.start() }),
         },
         [] => Err(TreeFault::Unbalanced { at: length }),
     }
 }
 
-fn new_frame(alloc: Global, token: &Token) -> Frame
+fn new_frame(token: &Token, items: List<Tree>) -> Frame
+    requires { items ≡ [] }
     ensures { result ≡ opened token.now }
 {
     Frame {
-        start: token.span.start,
-        items: List::new(alloc),
+        start: token.start(),
+        items,
     }
 }
 
@@ -68,9 +78,12 @@ fn grow(
     requires { All (InFile source.now) tokens.now }
     ensures { Gives result (grow source.now length tokens.entry.now top []) }
 {
-    let mut below = List::new(alloc);
+    let mut lists = Lists {
+        below: List::new(alloc),
+        spare: List::new(alloc),
+    };
     while let [token, others @ ..] = tokens {
-        match step(alloc, source, token, top, &mut below)? {
+        match step(alloc, source, token, top, &mut lists)? {
             Grown::More(frame) => top = frame,
             Grown::Whole(tree) => return alone(tree, others),
         }
@@ -85,27 +98,25 @@ fn alone(tree: Tree, others: &[Token]) -> Result<Tree, TreeFault>
 {
     match others {
         [] => Ok(tree),
-        [token, ..] => Err(TreeFault::Unbalanced {
-            at: token.span.start,
-        }),
+        [token, ..] => Err(TreeFault::Unbalanced { at: token.start() }),
     }
 }
 
-/// Adds a token to the innermost open list. The lists around it stand in `below`, the innermost last.
+/// Adds a token to the innermost open list.
 #[tactic(auto, unfolding(crate::specs::Growth::step_of))]
 fn step(
     alloc: Global,
     source: &[u8],
     token: &Token,
     top: Frame,
-    below: &mut List<Frame>,
+    lists: &mut Lists,
 ) -> Result<Grown, TreeFault>
     requires { InFile source.now token.now }
-    ensures { Makes result below.new (step_of source.now top (reverse below.old) token.now) }
+    ensures { Makes result lists.new.below (step_of source.now top (reverse lists.old.below) token.now) }
 {
-    match token.kind {
-        Kind::Left => open(alloc, token, top, below),
-        Kind::Right => close(token, top, below),
+    match token.kind() {
+        Kind::Left => open(alloc, token, top, lists),
+        Kind::Right => close(alloc, token, top, lists),
         _ => add(alloc, source, token, top),
     }
 }
@@ -115,11 +126,11 @@ fn add(alloc: Global, source: &[u8], token: &Token, top: Frame) -> Result<Grown,
     requires { InFile source.now token.now }
     ensures { MakesLeaf result (with_item (leaf_of source.now token.now) top) }
 {
-    let bytes = &source[token.span.start as usize..token.span.end as usize];
+    let bytes = &source[token.start() as usize..token.end() as usize];
     let leaf = Tree::Leaf {
-        kind: token.kind,
+        kind: token.kind(),
         text: folded(alloc, bytes)?,
-        span: token.span,
+        span: token.span(),
     };
     Ok(Grown::More(with_item(top, leaf)?))
 }
@@ -127,53 +138,83 @@ fn add(alloc: Global, source: &[u8], token: &Token, top: Frame) -> Result<Grown,
 fn folded(alloc: Global, bytes: &[u8]) -> Result<Text, AllocError>
     ensures { IfOk result (λ text. text ≡ map to_ascii_lowercase bytes.now) }
 {
-    let text = bytes
-        .iter()
-        .map(|byte| byte.to_ascii_lowercase())
-        .collect(alloc)?;
-    Ok(Text::from_vec(text))
-}
-
-fn open(
-    alloc: Global,
-    token: &Token,
-    top: Frame,
-    below: &mut List<Frame>,
-) -> Result<Grown, TreeFault>
-    ensures { Makes result below.new (open_step top (reverse below.old) token.now) }
-{
-    if below.len() >= 255 {
-        return Err(TreeFault::TooDeep {
-            at: token.span.start,
-        });
+    let mut text = Text::with_capacity(alloc, bytes.len())?;
+    for byte in bytes {
+        text.push(byte.to_ascii_lowercase())?;
     }
-    below.push(top)?;
-    Ok(Grown::More(new_frame(alloc, token)))
+    Ok(text)
 }
 
-fn close(token: &Token, top: Frame, below: &mut List<Frame>) -> Result<Grown, TreeFault>
-    ensures { Makes result below.new (close_step top (reverse below.old) token.now) }
+fn open(alloc: Global, token: &Token, top: Frame, lists: &mut Lists) -> Result<Grown, TreeFault>
+    ensures { Makes result lists.new.below (open_step top (reverse lists.old.below) token.now) }
 {
-    let tree = closed(top, token);
-    match below.pop() {
+    if lists.below.len() >= 255 {
+        return Err(TreeFault::TooDeep { at: token.start() });
+    }
+    lists.below.push(top)?;
+    let items = empty_list(alloc, &mut lists.spare);
+    Ok(Grown::More(new_frame(token, items)))
+}
+
+/// An empty list, in the room of a spare one where there is one.
+fn empty_list(alloc: Global, spare: &mut List<List<Tree>>) -> List<Tree>
+    ensures { result ≡ [] }
+{
+    match spare.pop() {
+        Some(mut items) => {
+            items.clear();
+            items
+        }
+        None => List::new(alloc),
+    }
+}
+
+fn close(alloc: Global, token: &Token, top: Frame, lists: &mut Lists) -> Result<Grown, TreeFault>
+    ensures { Makes result lists.new.below (close_step top (reverse lists.old.below) token.now) }
+{
+    let tree = closed(alloc, top, token, &mut lists.spare)?;
+    match lists.below.pop() {
         Some(frame) => Ok(Grown::More(with_item(frame, tree)?)),
         None => Ok(Grown::Whole(tree)),
     }
 }
 
-fn closed(frame: Frame, token: &Token) -> Tree
-    ensures { result ≡ closed frame token.now }
+fn closed(
+    alloc: Global,
+    frame: Frame,
+    token: &Token,
+    spare: &mut List<List<Tree>>,
+) -> Result<Tree, AllocError>
+    ensures { IfOk result (λ tree. tree ≡ closed frame token.now) }
 {
     let Frame { start, items } = frame;
-    let mut items = items.into_vec();
-    items.shrink_to_fit();
-    Tree::Branch {
-        items: Items::from_vec(items),
+    Ok(Tree::Branch {
+        items: fitted(alloc, items, spare)?,
         span: Span {
             start,
-            end: token.span.end,
+            end: token.end(),
         },
+    })
+}
+
+/// The items in just the room that they need. A short list leaves its own room for another, so that
+/// small parts of it don't lie unused between the lists.
+fn fitted(
+    alloc: Global,
+    items: List<Tree>,
+    spare: &mut List<List<Tree>>,
+) -> Result<Items<Tree>, AllocError>
+    ensures { IfOk result (λ it. it ≡ items) }
+{
+    let mut items = items.into_vec();
+    if items.len() >= LONG {
+        items.shrink_to_fit();
+        return Ok(Items::from_vec(items));
     }
+    let mut exact = Vec::with_capacity(alloc, items.len())?;
+    exact.append(&mut items)?;
+    spare.push(List::from_vec(items))?;
+    Ok(Items::from_vec(exact))
 }
 
 fn with_item(mut frame: Frame, item: Tree) -> Result<Frame, AllocError>

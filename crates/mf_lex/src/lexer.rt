@@ -50,8 +50,9 @@ fn step(source: &[u8], at: usize, list: &mut List<Token>) -> Result<usize, LexFa
     match next_piece(source, at)? {
         Piece::Gap { end } => Ok(end),
         Piece::Next(token) => {
+            let end = token.end() as usize;
             list.push(token)?;
-            Ok(token.span.end as usize)
+            Ok(end)
         }
     }
 }
@@ -89,19 +90,19 @@ fn word(source: &[u8], at: usize) -> Result<Piece, LexFault>
 
 fn token(source: &[u8], start: usize, end: usize) -> Token
     requires small { length source.now ≤ 16777216 }
+    requires begins { start < length source.now }
     requires order { start ≤ end }
+    requires short { end ≤ start + 255 }
     requires within { end ≤ length source.now }
     ensures start { result.span.start ≡ start }
     ensures end { result.span.end ≡ end }
     ensures kind { result.kind ≡ kind_of (text_of source.now result.span) }
 {
-    Token {
-        kind: kind(&source[start..end]),
-        span: Span {
-            start: start as u32,
-            end: end as u32,
-        },
-    }
+    let span = Span {
+        start: start as u32,
+        end: end as u32,
+    };
+    Token::new(kind(&source[start..end]), span)
 }
 
 /// The end of the run of word bytes that begins at a place.

@@ -4,6 +4,7 @@
 mod form;
 mod list;
 mod shared_list;
+mod short_text;
 mod state;
 mod task;
 mod text;

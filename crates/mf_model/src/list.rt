@@ -82,6 +82,13 @@ impl<T> List<T> {
 }
 
 impl<T: Drop> List<T> {
+    /// Drops the items, and keeps their room.
+    pub fn clear(&mut self)
+        ensures { self.new ≡ [] }
+    {
+        self.items.clear();
+    }
+
     pub fn push(&mut self, item: T) -> Result<(), AllocError>
         ensures ok { OnOk result (self.new ≡ self.old ++ item ∷ []) }
         ensures err { OnErr result (self.new ≡ self.old) }

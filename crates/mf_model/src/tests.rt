@@ -13,7 +13,9 @@ fn lists_grow(rt: HostRuntime) -> Result<(), Fail> {
     assert_eq!(rt; list.get(2).copied(), Some(4));
     assert_eq!(rt; list.copy(alloc)?, list);
     assert_eq!(rt; list.pop(), Some(7));
-    assert_eq!(rt; list.into_vec().len(), 5);
+    assert_eq!(rt; list.copy(alloc)?.into_vec().len(), 5);
+    list.clear();
+    assert!(rt; list.is_empty());
     let empty: List<u16> = List::new(alloc);
     assert!(rt; empty.is_empty());
     Ok(())
@@ -39,7 +41,10 @@ fn texts_grow(rt: HostRuntime) -> Result<(), Fail> {
     text.extend(b"ner")?;
     assert_eq!(rt; text.as_slice(), b"planner".as_slice());
     assert_eq!(rt; text.copy(alloc)?, text);
-    assert_eq!(rt; text.into_vec().len(), 7);
+    assert_eq!(rt; text.len(), 7);
+    text.extend(b" of tasks")?;
+    assert_eq!(rt; text.as_slice(), b"planner of tasks".as_slice());
+    assert_eq!(rt; text.copy(alloc)?, text);
     assert!(rt; Text::new(alloc).is_empty());
     Ok(())
 }

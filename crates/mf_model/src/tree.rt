@@ -7,3 +7,5 @@ pub enum Tree {
     Leaf { kind: Kind, text: Text, span: Span },
     Branch { items: Items<Tree>, span: Span },
 }
+
+const _: () = prove!(size_of::<Tree>() == 40);

@@ -12,7 +12,8 @@ returns-in-Gap c =
 
 pub returns-in_ok-push-in-Next : goal.returns-in_ok-push-in-Next
 returns-in_ok-push-in-Next c =
-    let next : IsNext c.args.source.now c.args.at c.in-Next.token = rw c.in-Next.is at c.in_ok-end.ensures in (
+    let next : IsNext c.args.source.now c.args.at c.in-Next.token = rw c.in-Next.is at c.in_ok-end.ensures in
+    rw c.end-end.ensures (
       next.begins,
       subst (λ (list : List Token). Reading c.args.source.now c.in-Next.token.span.end list) (sym c.in_ok-push-in-Next.ensures.ok)
           (next_reads c.args.source.now c.args.at c.args.list.now c.in-Next.token c.requires.reading next),
