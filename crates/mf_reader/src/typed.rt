@@ -123,13 +123,16 @@ fn item_types(alloc: Global, listed: Listed, tree: &Tree) -> Result<List<Word>, 
 }
 
 /// Words as items of these types, which they share.
-fn with_types(alloc: Global, types: List<Word>, words: List<Word>) -> Result<List<Typed>, FormFault>
-    ensures { Gives result (said (spec.with_types types words)) }
+fn with_types(
+    alloc: Global,
+    types: &SharedList<Word>,
+    words: List<Word>,
+) -> Result<List<Typed>, FormFault>
+    ensures { Gives result (said (spec.with_types types.now words)) }
 {
-    let shared = SharedList::from_list(types)?;
     let mut out = List::new(alloc);
     for word in words.into_vec() {
-        let types = shared.share()?;
+        let types = types.share()?;
         out.push(Typed { word, types })?;
     }
     Ok(out)
@@ -161,8 +164,9 @@ fn end_group<'a>(
         return Err(FormFault::BadForm { span: dash });
     }
     let types = item_types(alloc, listed, tree)?;
+    let types = SharedList::from_list(types)?;
     let words = replace(&mut groups.open, List::new(alloc));
-    let group = with_types(alloc, types, words)?;
+    let group = with_types(alloc, &types, words)?;
     groups.done.append(group)?;
     Ok(rest)
 }
@@ -204,7 +208,8 @@ pub(crate) fn typed_list(
         items = read_item(alloc, listed, &mut groups, item, behind)?;
     }
     let Groups { mut done, open } = groups;
-    let last = with_types(alloc, List::new(alloc), open)?;
+    let untyped = SharedList::from_list(List::new(alloc))?;
+    let last = with_types(alloc, &untyped, open)?;
     done.append(last)?;
     Ok(done)
 }
