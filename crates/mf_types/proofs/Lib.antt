@@ -1,5 +1,6 @@
 pub mod After
 pub mod Ancestors
+pub mod Ascent
 pub mod EndZeros
 pub mod Examples
 pub mod FewNames
@@ -10,6 +11,7 @@ pub mod Given
 pub mod KeyLemmas
 pub mod Made
 pub mod Narrow
+pub mod NoCycles
 pub mod ObjectLists
 pub mod Order
 pub mod Paired
@@ -23,6 +25,7 @@ pub mod ThereExpressions
 pub mod ThereScopes
 pub mod ThereTask
 pub mod ThereTerms
+pub mod TopType
 pub mod ValidConditions
 pub mod ValidEffects
 pub mod ValidExpressions

@@ -39,12 +39,12 @@ each_written W P f h (x ∷ xs) all =
     then_given P (All P) (f x) _ (h x (All-head W x xs all)) (λ y here.
     made_given (All P) (All P) (λ ys. y ∷ ys) (each f xs) (each_written W P f h xs (All-tail W x xs all)) (λ ys rest. All-cons P y ys here rest))
 
-paired_all : {A B C : Type 0} (Q : B → Type 0) (P : C → Type 0) (f : A → B → C) → ((a : A) (b : B) → Q b → P (f a b)) → (xs : List A) (ys : List B) → All Q ys → All P (paired f xs ys)
+pub paired_all : {A B C : Type 0} (Q : B → Type 0) (P : C → Type 0) (f : A → B → C) → ((a : A) (b : B) → Q b → P (f a b)) → (xs : List A) (ys : List B) → All Q ys → All P (paired f xs ys)
 paired_all Q P f h [] ys all = All-nil P
 paired_all Q P f h (x ∷ xs) [] all = All-nil P
 paired_all Q P f h (x ∷ xs) (y ∷ ys) all = All-cons P (f x y) (paired f xs ys) (h x y (All-head Q y ys all)) (paired_all Q P f h xs ys (All-tail Q y ys all))
 
-paired_length : {A B C : Type 0} (f : A → B → C) (xs : List A) (ys : List B) → length xs ≡ length ys → length (paired f xs ys) ≡ length xs
+pub paired_length : {A B C : Type 0} (f : A → B → C) (xs : List A) (ys : List B) → length xs ≡ length ys → length (paired f xs ys) ≡ length xs
 paired_length f [] ys e = refl
 paired_length f (x ∷ xs) [] e = absurd (omega (arith, e))
 paired_length f (x ∷ xs) (y ∷ ys) e = ap suc (paired_length f xs ys (omega (arith, e)))
@@ -64,7 +64,7 @@ each_count f xs ys e = taken (λ zs. length zs ≡ length xs) (each f xs) ys e (
         then_given (λ _. Unit {0}) (λ zs. length zs ≡ length (x ∷ xs)) (f x) _ (given (λ _. Unit {0}) (f x) (λ _ _. tt)) (λ y _.
         made_given (λ zs. length zs ≡ length xs) (λ zs. length zs ≡ length (x ∷ xs)) (λ ys. y ∷ ys) (each f xs) (counts_given f xs) (λ ys h. ap suc h))
 
-firsts_all : {A : Type 0} (P : A → Type 0) (name : A → List ℕ) (seen : List (List ℕ)) (xs : List A) → All P xs → All P (firsts name seen xs)
+pub firsts_all : {A : Type 0} (P : A → Type 0) (name : A → List ℕ) (seen : List (List ℕ)) (xs : List A) → All P xs → All P (firsts name seen xs)
 firsts_all P name seen [] all = All-nil P
 firsts_all P name seen (x ∷ xs) all =
     let rest = All-tail P x xs all in
