@@ -1,4 +1,5 @@
-ghost use Rattle.std.specs.Prelude.{◌≡◌, List, ℕ};
+ghost use Rattle.std.specs.Prelude.{◌≡◌, All, IsTrue, List, [], ◌∷◌, ℕ};
+ghost use Rattle.mf_model.specs.Objects.{kinds_of, meets};
 ghost use Rattle.mf_model.specs.declared.task.TypedTask.{TypedTask};
 ghost use Rattle.mf_input.specs.Files.{IsTaskOfFiles};
 ghost use Rattle.mf_input.specs.Limits.{IsWithinLimits};
@@ -12,4 +13,9 @@ pub fn task_is_unique()
 /// place.
 pub fn task_is_within_limits()
     ensures { (domain problem : List ℕ) (task : TypedTask) → IsTaskOfFiles domain problem task → IsWithinLimits task }
+{}
+
+/// Each object of the task of two files has the type `object`, from which all types descend.
+pub fn objects_have_the_top_type()
+    ensures { (domain problem : List ℕ) (task : TypedTask) → IsTaskOfFiles domain problem task → All (λ kinds. IsTrue (meets (0 ∷ []) kinds)) (kinds_of task) }
 {}

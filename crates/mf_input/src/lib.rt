@@ -6,6 +6,6 @@ mod laws;
 mod read;
 mod refusal;
 
-pub use laws::{task_is_unique, task_is_within_limits};
+pub use laws::{objects_have_the_top_type, task_is_unique, task_is_within_limits};
 pub use read::read_task;
 pub use refusal::{InputFault, Refusal, RefusalKind};
