@@ -1,5 +1,5 @@
-ghost use Rattle.std.specs.Prelude.{◌≡◌, All, IsTrue, List, [], ◌∷◌, ℕ};
-ghost use Rattle.mf_model.specs.Objects.{kinds_of, meets};
+ghost use Rattle.std.specs.Prelude.{◌≡◌, List, ℕ};
+ghost use Rattle.mf_model.specs.Objects.{HaveTopType};
 ghost use Rattle.mf_model.specs.declared.task.TypedTask.{TypedTask};
 ghost use Rattle.mf_input.specs.Files.{IsTaskOfFiles};
 ghost use Rattle.mf_input.specs.Limits.{IsWithinLimits};
@@ -17,5 +17,5 @@ pub fn task_is_within_limits()
 
 /// Each object of the task of two files has the type `object`, from which all types descend.
 pub fn objects_have_the_top_type()
-    ensures { (domain problem : List ℕ) (task : TypedTask) → IsTaskOfFiles domain problem task → All (λ kinds. IsTrue (meets (0 ∷ []) kinds)) (kinds_of task) }
+    ensures { (domain problem : List ℕ) (task : TypedTask) → IsTaskOfFiles domain problem task → HaveTopType task }
 {}

@@ -1,5 +1,5 @@
 -- Objects, their types, and the lists of objects that fit a list of types.
-use Rattle.std.specs.Prelude.{ℕ, zero, suc, ◌+◌, Bool, if◌then◌else◌, nat_eq, List, [], ◌∷◌, ◌++◌, map, length}
+use Rattle.std.specs.Prelude.{ℕ, zero, suc, ◌+◌, Bool, IsTrue, if◌then◌else◌, nat_eq, List, [], ◌∷◌, ◌++◌, map, length, All}
 use Rattle.std.specs.List.{flat_map, list_any, slice_index_or}
 use Rattle.mf_model.specs.declared.task.TypedTask.{TypedTask}
 
@@ -20,6 +20,10 @@ parents_of task = map (λ t. t.parent) task.types
 -- for each object all types that it has: its declared ones and those from which they descend
 abbrev pub kinds_of : TypedTask → List (List ℕ)
 kinds_of task = map (λ o. flat_map (ancestors (parents_of task) (length task.types)) o.types) task.objects
+
+-- each object has the type `object`, from which all types descend
+abbrev pub HaveTopType : TypedTask → Type 0
+HaveTopType task = All (λ kinds. IsTrue (meets (0 ∷ []) kinds)) (kinds_of task)
 
 -- the numbers, from n on, of the objects that have one of the types
 abbrev pub having : List ℕ → ℕ → List (List ℕ) → List ℕ

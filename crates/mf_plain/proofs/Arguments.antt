@@ -4,13 +4,12 @@ use Rattle.std.specs.List.{flat_map}
 use Rattle.std.proofs.lemmas.List.{append-nil, append_assoc, map-id, length-map, map_push, drop_all}
 use Rattle.std.proofs.lemmas.List.Concat.{flat_map-append, flat_map_single}
 use Rattle.std.proofs.lemmas.List.Folds.{flat_map-map}
-use Rattle.std.proofs.lemmas.List.Elements.{All-head, All-tail, All-map, All-get_or}
+use Rattle.std.proofs.lemmas.List.Elements.{All-head, All-tail, All-get_or}
 use Rattle.mf_model.specs.declared.task.Action.{Action}
-use Rattle.mf_model.specs.declared.task.Object.{Object}
 use Rattle.mf_model.specs.declared.task.TypedTask.{TypedTask}
 use Rattle.mf_model.specs.declared.state.Instance.{Instance}
 use Rattle.mf_model.specs.Application.{instances_from}
-use Rattle.mf_model.specs.Objects.{ancestors, bindings, having, kinds_of, meets, parents_of}
+use Rattle.mf_model.specs.Objects.{HaveTopType, ancestors, bindings, having, kinds_of, meets, parents_of}
 use Rattle.mf_model.specs.Plain.{IsObjectType, IsPlainAction}
 use Rattle.mf_plain.specs.PlainTask.{IsPlainTask}
 use Rattle.mf_plain.specs.Listing.{numbers_from, with_next, extended, of_action}
@@ -33,9 +32,6 @@ next_push front object = ap (λ os. with_next os front) (numbers_push object) �
 abbrev HasObject : List ℕ → Type 0
 HasObject kinds = meets (0 ∷ []) kinds ≡ true
 
-kinds_plain : (task : TypedTask) → IsPlainTask task → All HasObject (kinds_of task)
-kinds_plain task plain = All-map HasObject (λ (o : Object). flat_map (ancestors (parents_of task) (length task.types)) o.types) task.objects plain.objects
-
 one_more : (b : Bool) (n : ℕ) (rest : List ℕ) → b ≡ true → (if b then n ∷ rest else rest) ≡ n ∷ rest
 one_more true n rest e = refl
 one_more false n rest e = let h : ⊥ = cc in absurd h
@@ -46,8 +42,8 @@ having_all (k ∷ kinds) n all =
     one_more (meets (0 ∷ []) k) n (having (0 ∷ []) (n + 1) kinds) (All-head HasObject k kinds all)
     ∙ ap (λ r. n ∷ r) (having_all kinds (n + 1) (All-tail HasObject k kinds all))
 
-having_plain : (task : TypedTask) (types : List ℕ) → IsPlainTask task → IsObjectType types → having types 0 (kinds_of task) ≡ numbers_from 0 (length task.objects)
-having_plain task types plain e = rw e (having_all (kinds_of task) 0 (kinds_plain task plain) ∙ ap (numbers_from 0) (length-map task.objects (λ o. flat_map (ancestors (parents_of task) (length task.types)) o.types)))
+having_top : (task : TypedTask) (types : List ℕ) → HaveTopType task → IsObjectType types → having types 0 (kinds_of task) ≡ numbers_from 0 (length task.objects)
+having_top task types top e = rw e (having_all (kinds_of task) 0 top ∙ ap (numbers_from 0) (length-map task.objects (λ o. flat_map (ancestors (parents_of task) (length task.types)) o.types)))
 
 extended_is : (kinds : List (List ℕ)) (types : List ℕ) (others : List (List ℕ)) (objects : List ℕ) (fronts : List (List ℕ)) → having types 0 kinds ≡ objects → flat_map (bindings kinds others) (extended objects fronts) ≡ flat_map (bindings kinds (types ∷ others)) fronts
 extended_is kinds types others objects [] e = refl
@@ -56,10 +52,10 @@ extended_is kinds types others objects (front ∷ fronts) e =
     ∙ rw (e, extended_is kinds types others objects fronts e, flat_map-map (bindings kinds others) (λ o. front ++ o ∷ []) objects) refl
 
 -- the loop over the parameters
-pub arguments_step : (task : TypedTask) (parameters : List (List ℕ)) (types : List ℕ) (i : ℕ) (fronts : List (List ℕ)) → IsPlainTask task → All IsObjectType parameters → i < length parameters → types ≡ get_or parameters i types → flat_map (bindings (kinds_of task) (drop (i + 1) parameters)) (extended (numbers_from 0 (length task.objects)) fronts) ≡ flat_map (bindings (kinds_of task) (drop i parameters)) fronts
-arguments_step task parameters types i fronts plain all h e =
+pub arguments_step : (task : TypedTask) (parameters : List (List ℕ)) (types : List ℕ) (i : ℕ) (fronts : List (List ℕ)) → HaveTopType task → All IsObjectType parameters → i < length parameters → types ≡ get_or parameters i types → flat_map (bindings (kinds_of task) (drop (i + 1) parameters)) (extended (numbers_from 0 (length task.objects)) fronts) ≡ flat_map (bindings (kinds_of task) (drop i parameters)) fronts
+arguments_step task parameters types i fronts top all h e =
     let one : IsObjectType types = rw e (All-get_or IsObjectType parameters i types h all) in
-    extended_is (kinds_of task) types (drop (i + 1) parameters) (numbers_from 0 (length task.objects)) fronts (having_plain task types plain one)
+    extended_is (kinds_of task) types (drop (i + 1) parameters) (numbers_from 0 (length task.objects)) fronts (having_top task types top one)
     ∙ ap (λ r. flat_map (bindings (kinds_of task) r) fronts) (sym (drop_at_read parameters i types h e))
 
 pub arguments_first : (kinds : List (List ℕ)) (parameters : List (List ℕ)) → flat_map (bindings kinds parameters) ([] ∷ []) ≡ bindings kinds parameters []
@@ -76,8 +72,8 @@ pub plain_parameters : (task : TypedTask) (action : Action) (i : ℕ) → IsPlai
 plain_parameters task action i plain h e = rw e (All-get_or (IsPlainAction task.predicates (length task.objects)) task.actions i action h plain.actions).types
 
 -- the same, as the loop finds it
-pub arguments_next : (task : TypedTask) (parameters : List (List ℕ)) (types : List ℕ) (i count : ℕ) (fronts seen next : List (List ℕ)) → IsPlainTask task → All IsObjectType parameters → i < length parameters → types ≡ get_or parameters i types → count ≡ length task.objects → seen ≡ fronts → next ≡ extended (numbers_from 0 count) seen → flat_map (bindings (kinds_of task) (drop (i + 1) parameters)) next ≡ flat_map (bindings (kinds_of task) (drop i parameters)) fronts
-arguments_next task parameters types i count fronts seen next plain all h e size same made = rw (made, same, size) (arguments_step task parameters types i fronts plain all h e)
+pub arguments_next : (task : TypedTask) (parameters : List (List ℕ)) (types : List ℕ) (i count : ℕ) (fronts seen next : List (List ℕ)) → HaveTopType task → All IsObjectType parameters → i < length parameters → types ≡ get_or parameters i types → count ≡ length task.objects → seen ≡ fronts → next ≡ extended (numbers_from 0 count) seen → flat_map (bindings (kinds_of task) (drop (i + 1) parameters)) next ≡ flat_map (bindings (kinds_of task) (drop i parameters)) fronts
+arguments_next task parameters types i count fronts seen next top all h e size same made = rw (made, same, size) (arguments_step task parameters types i fronts top all h e)
 
 pub arguments_begin : (kinds : List (List ℕ)) (parameters : List (List ℕ)) (fronts before : List (List ℕ)) (first : List ℕ) → before ≡ [] → first ≡ [] → fronts ≡ before ++ first ∷ [] → flat_map (bindings kinds parameters) fronts ≡ bindings kinds parameters []
 arguments_begin kinds parameters fronts before first b f e = rw (e, b, f) (arguments_first kinds parameters)

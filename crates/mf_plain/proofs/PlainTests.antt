@@ -8,7 +8,7 @@ use Rattle.mf_model.specs.declared.task.Symbol.{Symbol}
 use Rattle.mf_model.specs.declared.task.Action.{Action}
 use Rattle.mf_model.specs.declared.task.TypedTask.{TypedTask}
 use Rattle.mf_model.specs.Plain.{is_plain_cond, is_plain_effect, is_plain_fact, IsObjectType, IsPlainSymbol, IsPlainAction}
-use Rattle.mf_plain.specs.PlainTask.{IsPlainTask, is_object}
+use Rattle.mf_plain.specs.PlainTask.{IsPlainTask}
 use Rattle.mf_plain.specs.PlainTest.{is_nil, is_absent, is_object_type, are_plain_parameters, is_plain_symbol, is_plain_action, are_plain_names, is_within_limits, is_plain_start, is_plain_end, is_plain_task}
 
 itself : (b : Bool) → Decides b (b ≡ true)
@@ -53,15 +53,13 @@ action predicates objects it =
 -- the task
 
 abbrev Names : TypedTask → Type 0
-Names task = All (λ object. is_object task object ≡ true) task.objects × (All IsPlainSymbol task.predicates × (task.functions ≡ []))
+Names task = All IsPlainSymbol task.predicates × (task.functions ≡ [])
 
 names : (task : TypedTask) → Decides (are_plain_names task) (Names task)
 names task =
-    Decides-and (list_all (is_object task) task.objects) (list_all is_plain_symbol task.predicates && is_nil task.functions)
-    (all_pass (is_object task) (λ object. is_object task object ≡ true) (λ object. itself (is_object task object)) task.objects)
-    (Decides-and (list_all is_plain_symbol task.predicates) (is_nil task.functions)
+    Decides-and (list_all is_plain_symbol task.predicates) (is_nil task.functions)
     (all_pass is_plain_symbol IsPlainSymbol symbol task.predicates)
-    (nil task.functions))
+    (nil task.functions)
 
 abbrev Limits : TypedTask → Type 0
 Limits task = (length task.objects ≤ 65535) × ((length task.predicates ≤ 10000) × (length task.actions ≤ 1000))
@@ -103,11 +101,10 @@ parts task =
 
 together : (task : TypedTask) → Names task → Limits task → Actions task → Start task → End task → IsPlainTask task
 together task names limits actions start end = record {
-  objects = names.0;
   object_limit = limits.0;
-  predicates = names.1.0;
+  predicates = names.0;
   predicate_limit = limits.1.0;
-  functions = names.1.1;
+  functions = names.1;
   actions = actions;
   action_limit = limits.1.1;
   atoms = start.0;
@@ -118,7 +115,7 @@ together task names limits actions start end = record {
 
 apart : (task : TypedTask) → IsPlainTask task → Names task × (Limits task × (Actions task × (Start task × End task)))
 apart task plain =
-    let names : Names task = (plain.objects, (plain.predicates, plain.functions)) in
+    let names : Names task = (plain.predicates, plain.functions) in
     let limits : Limits task = (plain.object_limit, (plain.predicate_limit, plain.action_limit)) in
     let start : Start task = (plain.atoms, plain.values) in
     let end : End task = (plain.goal, plain.metric) in

@@ -1,20 +1,12 @@
 -- Plain tasks, which the plain search takes: each parameter is of the type `object`, conditions are conjunctions of
 -- atoms, effects are groups of atoms that are added and deleted, and there are no functions and no metric. Objects
 -- may be of any types.
-use Rattle.std.specs.Prelude.{◌≡◌, ◌≤◌, IsTrue, Bool, [], ◌∷◌, length, None}
+use Rattle.std.specs.Prelude.{◌≡◌, ◌≤◌, IsTrue, [], length, None}
 use Rattle.std.specs.List.{All}
-use Rattle.mf_model.specs.declared.task.Object.{Object}
 use Rattle.mf_model.specs.declared.task.TypedTask.{TypedTask}
-use Rattle.mf_model.specs.Objects.{meets}
 use Rattle.mf_model.specs.Plain.{is_plain_cond, is_plain_fact, IsPlainAction, IsPlainSymbol}
-use Rattle.mf_eval.specs.Judged.{kinds_of_object}
-
--- the object is of the type `object`, from which all types descend
-abbrev pub is_object : TypedTask → Object → Bool
-is_object task object = meets (0 ∷ []) (kinds_of_object task object)
 
 pub record IsPlainTask (task : TypedTask) : Type 0 where
-  pub objects : All (λ object. IsTrue (is_object task object)) task.objects
   pub object_limit : length task.objects ≤ 65535
   pub predicates : All IsPlainSymbol task.predicates
   pub predicate_limit : length task.predicates ≤ 10000

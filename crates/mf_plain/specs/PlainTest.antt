@@ -5,7 +5,6 @@ use Rattle.mf_model.specs.declared.task.Symbol.{Symbol}
 use Rattle.mf_model.specs.declared.task.Action.{Action}
 use Rattle.mf_model.specs.declared.task.TypedTask.{TypedTask}
 use Rattle.mf_model.specs.Plain.{is_plain_cond, is_plain_effect, is_plain_fact}
-use Rattle.mf_plain.specs.PlainTask.{is_object}
 
 abbrev pub is_nil : {A : Type 0} → List A → Bool
 is_nil [] = true
@@ -32,7 +31,7 @@ is_plain_action predicates objects action =
     && (is_plain_cond predicates (length action.parameters) objects action.condition && is_plain_effect predicates (length action.parameters) objects action.effect)
 
 abbrev pub are_plain_names : TypedTask → Bool
-are_plain_names task = list_all (is_object task) task.objects && (list_all is_plain_symbol task.predicates && is_nil task.functions)
+are_plain_names task = list_all is_plain_symbol task.predicates && is_nil task.functions
 
 abbrev pub is_within_limits : TypedTask → Bool
 is_within_limits task = nat_le (length task.objects) 65535 && (nat_le (length task.predicates) 10000 && nat_le (length task.actions) 1000)

@@ -1,6 +1,6 @@
 ghost use Rattle.std.specs.Prelude.{◌≡◌, [], ◌++◌, ◌<◌, ◌^◌, length, IfOk, OnOk, All};
 ghost use Rattle.mf_model.specs.Application.{instances_of};
-ghost use Rattle.mf_model.specs.Objects.{kinds_of, bindings};
+ghost use Rattle.mf_model.specs.Objects.{HaveTopType, bindings, kinds_of};
 ghost use Rattle.mf_model.specs.Plain.{IsObjectType};
 ghost use Rattle.mf_plain.specs.PlainTask.{IsPlainTask};
 ghost use Rattle.mf_plain.specs.Listing.{numbers_from, with_next, extended, of_action};
@@ -44,6 +44,7 @@ fn arguments(
     parameters: &[Types],
 ) -> Result<List<List<u16>>, Memory>
     requires plain { IsPlainTask task.now }
+    requires objects { HaveTopType task.now }
     requires types { All IsObjectType parameters.now }
     ensures { IfOk result (λ list. list ≡ bindings (kinds_of task.now) parameters.now []) }
 {
@@ -68,7 +69,8 @@ fn list_action(action: u16, fronts: List<List<u16>>, out: &mut List<Instance>) -
 
 /// All instances of the task: by action, then by argument list in lexicographic order.
 pub(crate) fn instances(alloc: Global, task: &TypedTask) -> Result<List<Instance>, Memory>
-    requires { IsPlainTask task.now }
+    requires plain { IsPlainTask task.now }
+    requires objects { HaveTopType task.now }
     ensures { IfOk result (λ list. list ≡ instances_of task.now) }
 {
     let mut out = List::new(alloc);

@@ -2,11 +2,10 @@ ghost use Rattle.std.specs.Prelude.{◌≡◌, slice_get};
 ghost use Rattle.std.specs.Bool.{Decides};
 ghost use Rattle.std.specs.List.{list_all};
 ghost use Rattle.mf_model.specs.Plain as plain;
-ghost use Rattle.mf_plain.specs.PlainTask.{IsPlainTask, is_object};
+ghost use Rattle.mf_plain.specs.PlainTask.{IsPlainTask};
 ghost use Rattle.mf_plain.specs.PlainTest as test;
 
-use mf_eval::has_some_type;
-use mf_model::{Action, Atom, Cond, Effect, Object, Symbol, Term, TypedTask, Types};
+use mf_model::{Action, Atom, Cond, Effect, Symbol, Term, TypedTask, Types};
 
 // Whether the one type is `object`.
 fn is_object_type(types: &[u16]) -> bool
@@ -16,15 +15,6 @@ fn is_object_type(types: &[u16]) -> bool
         [number] => *number == 0,
         _ => false,
     }
-}
-
-// Whether each object is of the type `object`.
-fn are_objects(task: &TypedTask, objects: &[Object]) -> bool
-    ensures { result ≡ list_all (is_object task.now) objects.now }
-{
-    objects
-        .iter()
-        .all(|object| has_some_type(task, object, &[0]))
 }
 
 fn are_object_types(parameters: &[Types]) -> bool
@@ -184,9 +174,7 @@ fn are_plain_facts(predicates: &[Symbol], objects: usize, atoms: &[Atom]) -> boo
 fn are_plain_names(task: &TypedTask) -> bool
     ensures { result ≡ test.are_plain_names task.now }
 {
-    are_objects(task, task.objects.as_slice())
-        && are_plain_symbols(task.predicates.as_slice())
-        && matches!(task.functions.as_slice(), [])
+    are_plain_symbols(task.predicates.as_slice()) && matches!(task.functions.as_slice(), [])
 }
 
 fn is_within_limits(task: &TypedTask) -> bool

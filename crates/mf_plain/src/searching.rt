@@ -1,5 +1,6 @@
 ghost use Rattle.std.specs.Prelude.{◌≡◌, ◌≤◌, ◌<◌, ◌^◌, ℕ, [], ◌∷◌, ◌++◌, List, length, get_or, IfOk, OnOk};
 ghost use Rattle.mf_model.specs.Application.{instances_of};
+ghost use Rattle.mf_model.specs.Objects.{HaveTopType};
 ghost use Rattle.mf_plain.specs.PlainTask.{IsPlainTask};
 ghost use Rattle.mf_model.specs.declared.state.PlainState.{PlainState};
 ghost use Rattle.mf_model.specs.declared.task.TypedTask.{TypedTask};
@@ -103,6 +104,7 @@ fn last_status(progress: &Progress) -> Status
 /// The instances are numbered by `u32`: a task with more of them is answered as want of memory.
 pub fn search(alloc: Global, task: &TypedTask, budget: u64) -> Result<Searched, Memory>
     requires plain { IsPlainTask task.now }
+    requires objects { HaveTopType task.now }
     requires some { 1 ≤ budget }
     ensures { IfOk result (IsSearched task.now budget) }
 {

@@ -1,8 +1,8 @@
-ghost use Rattle.std.specs.Prelude.{◌≡◌, IsTrue, All, [], ◌∷◌};
+ghost use Rattle.std.specs.Prelude.{◌≡◌, []};
 ghost use Rattle.mf_model.specs.declared.form.Domain.{Domain};
 ghost use Rattle.mf_model.specs.declared.form.Problem.{Problem};
 ghost use Rattle.mf_model.specs.declared.task.TypedTask.{TypedTask};
-ghost use Rattle.mf_model.specs.Objects.{kinds_of, meets};
+ghost use Rattle.mf_model.specs.Objects.{HaveTopType};
 ghost use Rattle.mf_types.specs.AllFaults.{faults_of};
 ghost use Rattle.mf_types.specs.Tasks.{IsTaskOf};
 ghost use Rattle.mf_types.specs.Valid.{IsValidTask};
@@ -25,5 +25,5 @@ pub fn task_is_valid()
 
 /// Each object of the task of two files without faults has the type `object`, from which all types descend.
 pub fn objects_have_the_top_type()
-    ensures { (d : Domain) (p : Problem) (task : TypedTask) → faults_of d p ≡ [] → IsTaskOf d p task → All (λ kinds. IsTrue (meets (0 ∷ []) kinds)) (kinds_of task) }
+    ensures { (d : Domain) (p : Problem) (task : TypedTask) → faults_of d p ≡ [] → IsTaskOf d p task → HaveTopType task }
 {}

@@ -9,7 +9,7 @@ loop-types-init c = arguments_begin (kinds_of c.args.task.now) c.args.parameters
 pub loop-types-preserved : goal.loop-types-preserved
 loop-types-preserved c =
     arguments_next c.args.task.now c.args.parameters.now c._types-item.result c.loop-types._types-index c.len-count.result c.loop-types.fronts c.as_slice.result.now c.in_ok-fronts.fronts
-    c.requires.plain c.requires.types c.loop-types-test.true c._types-item.is c.len-count.ensures c.as_slice.ensures c.in_ok-fronts.ensures
+    c.requires.objects c.requires.types c.loop-types-test.true c._types-item.is c.len-count.ensures c.as_slice.ensures c.in_ok-fronts.ensures
     ∙ c.loop-types.invariant
 
 pub returns : goal.returns
