@@ -1,5 +1,5 @@
 -- The tree of a list of tokens, one token at a time.
-use Rattle.std.specs.Prelude.{◌≡◌, ℕ, ◌≤◌, if◌then◌else◌, nat_lt, List, [], ◌∷◌, ◌++◌, length, reverse, Result, Ok, Err}
+use Rattle.std.specs.Prelude.{◌≡◌, ℕ, ◌≤◌, if◌then◌else◌, nat_lt, List, [], ◌∷◌, ◌++◌, length, reverse, Option, Some, None, Result, Ok, Err}
 use Rattle.mf_model.specs.declared.token.Token.{Token}
 use Rattle.mf_model.specs.declared.token.Kind.{Kind}
 use Rattle.mf_model.specs.declared.token.Kind.TheVariants.{Left, Right, Name, Variable, Keyword, Number, Sign, Plain}
@@ -7,8 +7,7 @@ use Rattle.mf_model.specs.declared.tree.Tree.{Tree}
 use Rattle.mf_model.specs.declared.tree.Tree.TheVariants.{Leaf, Branch}
 use Rattle.mf_model.specs.Tokens.{text_of}
 use Rattle.mf_lex.specs.declared.growth.Frame.{Frame}
-use Rattle.mf_lex.specs.declared.growth.Grown.{Grown}
-use Rattle.mf_lex.specs.declared.growth.Grown.TheVariants.{More, Whole}
+use Rattle.mf_lex.specs.declared.growth.Lists.{Lists}
 use Rattle.mf_lex.specs.declared.fault.TreeFault.{TreeFault}
 use Rattle.mf_lex.specs.declared.fault.TreeFault.TheVariants.{Unbalanced, TooDeep, Memory}
 
@@ -93,20 +92,12 @@ Gives (Err (TooDeep at)) read = read ≡ Err (TooDeep at)
 Gives (Err Memory) read = Unit {0}
 
 -- the same of one step, with the open lists that it leaves
-abbrev pub Makes : Result Grown TreeFault → List Frame → Step → Type 0
-Makes (Ok (More frame)) frames step = step ≡ goes frame (reverse frames)
-Makes (Ok (Whole tree)) frames step = step ≡ ends tree
-Makes (Err (Unbalanced at)) frames step = step ≡ fails (Unbalanced at)
-Makes (Err (TooDeep at)) frames step = step ≡ fails (TooDeep at)
-Makes (Err Memory) frames step = Unit {0}
-
--- a word makes the innermost list longer, and changes no other
-abbrev pub MakesLeaf : Result Grown TreeFault → Frame → Type 0
-MakesLeaf (Ok (More frame)) top = frame ≡ top
-MakesLeaf (Ok (Whole tree)) top = ⊥
-MakesLeaf (Err (Unbalanced at)) top = ⊥
-MakesLeaf (Err (TooDeep at)) top = ⊥
-MakesLeaf (Err Memory) top = Unit {0}
+abbrev pub Makes : Result (Option Tree) TreeFault → Lists → Step → Type 0
+Makes (Ok None) lists step = step ≡ goes lists.top (reverse lists.below)
+Makes (Ok (Some tree)) lists step = step ≡ ends tree
+Makes (Err (Unbalanced at)) lists step = step ≡ fails (Unbalanced at)
+Makes (Err (TooDeep at)) lists step = step ≡ fails (TooDeep at)
+Makes (Err Memory) lists step = Unit {0}
 
 pub record InFile (source : List ℕ) (token : Token) : Type 0 where
   pub order : token.span.start ≤ token.span.end

@@ -3,12 +3,13 @@ ghost use Rattle.std.specs.List.{All};
 ghost use Rattle.std.specs.Char.{to_ascii_lowercase};
 ghost use Rattle.mf_model.specs.Tokens.{text_of};
 ghost use Rattle.mf_model.specs.declared.token.Kind.TheVariants.{Left, Right};
-ghost use Rattle.mf_lex.specs.Growth.{Gives, InFile, Makes, MakesLeaf, alone, closed, close_step, grow, leaf_of, open_step, opened, step_of, tree_of, with_item};
+ghost use Rattle.mf_lex.specs.Growth.{Gives, InFile, Makes, alone, closed, close_step, grow, leaf_of, open_step, opened, step_of, tree_of, with_item};
 
 use crate::fault::TreeFault;
 use mf_model::{Kind, List, Span, Text, Token, Tree};
 use sqlite_items::Items;
 use std::alloc::{AllocError, Global};
+use std::mem;
 
 /// The number of items from which on a list is shrunk where it lies.
 const LONG: usize = 256;
@@ -20,19 +21,13 @@ pub struct Frame {
     pub items: List<Tree>,
 }
 
-/// The open lists around the innermost one, the innermost last, and vectors to keep the items of
-/// other lists in.
+/// The innermost open list, those around it, the innermost last, and vectors to keep the items of other
+/// lists in.
 #[derive(Drop)]
 pub struct Lists {
+    pub top: Frame,
     pub below: List<Frame>,
     pub spare: List<List<Tree>>,
-}
-
-/// What a token leads to: the innermost open list, or the whole tree.
-#[derive(Drop)]
-pub enum Grown {
-    More(Frame),
-    Whole(Tree),
 }
 
 /// The tree of the tokens of a file of the given length.
@@ -72,20 +67,20 @@ fn grow(
     alloc: Global,
     source: &[u8],
     mut tokens: &[Token],
-    mut top: Frame,
+    top: Frame,
     length: u32,
 ) -> Result<Tree, TreeFault>
     requires { All (InFile source.now) tokens.now }
     ensures { Gives result (grow source.now length tokens.entry.now top []) }
 {
     let mut lists = Lists {
+        top,
         below: List::new(alloc),
         spare: List::new(alloc),
     };
     while let [token, others @ ..] = tokens {
-        match step(alloc, source, token, top, &mut lists)? {
-            Grown::More(frame) => top = frame,
-            Grown::Whole(tree) => return alone(tree, others),
+        if let Some(tree) = step(alloc, source, token, &mut lists)? {
+            return alone(tree, others);
         }
         tokens = others;
     }
@@ -102,37 +97,38 @@ fn alone(tree: Tree, others: &[Token]) -> Result<Tree, TreeFault>
     }
 }
 
-/// Adds a token to the innermost open list.
+/// Adds a token to the innermost open list. The answer is the whole tree, where the token ends it.
 #[tactic(auto, unfolding(crate::specs::Growth::step_of))]
 fn step(
     alloc: Global,
     source: &[u8],
     token: &Token,
-    top: Frame,
     lists: &mut Lists,
-) -> Result<Grown, TreeFault>
+) -> Result<Option<Tree>, TreeFault>
     requires { InFile source.now token.now }
-    ensures { Makes result lists.new.below (step_of source.now top (reverse lists.old.below) token.now) }
+    ensures { Makes result lists.new (step_of source.now lists.old.top (reverse lists.old.below) token.now) }
 {
     match token.kind() {
-        Kind::Left => open(alloc, token, top, lists),
-        Kind::Right => close(alloc, token, top, lists),
-        _ => add(alloc, source, token, top),
+        Kind::Left => open(alloc, token, lists),
+        Kind::Right => close(alloc, token, lists),
+        _ => {
+            add(alloc, source, token, &mut lists.top)?;
+            Ok(None)
+        }
     }
 }
 
 /// Adds a word to an open list.
-fn add(alloc: Global, source: &[u8], token: &Token, top: Frame) -> Result<Grown, TreeFault>
+fn add(alloc: Global, source: &[u8], token: &Token, top: &mut Frame) -> Result<(), AllocError>
     requires { InFile source.now token.now }
-    ensures { MakesLeaf result (with_item (leaf_of source.now token.now) top) }
+    ensures { OnOk result (top.new ≡ with_item (leaf_of source.now token.now) top.old) }
 {
     let bytes = &source[token.start() as usize..token.end() as usize];
-    let leaf = Tree::Leaf {
+    top.items.push(Tree::Leaf {
         kind: token.kind(),
         text: folded(alloc, bytes)?,
         span: token.span(),
-    };
-    Ok(Grown::More(with_item(top, leaf)?))
+    })
 }
 
 fn folded(alloc: Global, bytes: &[u8]) -> Result<Text, AllocError>
@@ -145,15 +141,16 @@ fn folded(alloc: Global, bytes: &[u8]) -> Result<Text, AllocError>
     Ok(text)
 }
 
-fn open(alloc: Global, token: &Token, top: Frame, lists: &mut Lists) -> Result<Grown, TreeFault>
-    ensures { Makes result lists.new.below (open_step top (reverse lists.old.below) token.now) }
+fn open(alloc: Global, token: &Token, lists: &mut Lists) -> Result<Option<Tree>, TreeFault>
+    ensures { Makes result lists.new (open_step lists.old.top (reverse lists.old.below) token.now) }
 {
     if lists.below.len() >= 255 {
         return Err(TreeFault::TooDeep { at: token.start() });
     }
-    lists.below.push(top)?;
     let items = empty_list(alloc, &mut lists.spare);
-    Ok(Grown::More(new_frame(token, items)))
+    let outer = mem::replace(&mut lists.top, new_frame(token, items));
+    lists.below.push(outer)?;
+    Ok(None)
 }
 
 /// An empty list, in the room of a spare one where there is one.
@@ -169,13 +166,20 @@ fn empty_list(alloc: Global, spare: &mut List<List<Tree>>) -> List<Tree>
     }
 }
 
-fn close(alloc: Global, token: &Token, top: Frame, lists: &mut Lists) -> Result<Grown, TreeFault>
-    ensures { Makes result lists.new.below (close_step top (reverse lists.old.below) token.now) }
+fn close(alloc: Global, token: &Token, lists: &mut Lists) -> Result<Option<Tree>, TreeFault>
+    ensures { Makes result lists.new (close_step lists.old.top (reverse lists.old.below) token.now) }
 {
-    let tree = closed(alloc, top, token, &mut lists.spare)?;
     match lists.below.pop() {
-        Some(frame) => Ok(Grown::More(with_item(frame, tree)?)),
-        None => Ok(Grown::Whole(tree)),
+        Some(outer) => {
+            let inner = mem::replace(&mut lists.top, outer);
+            let tree = closed(alloc, inner, token, &mut lists.spare)?;
+            lists.top.items.push(tree)?;
+            Ok(None)
+        }
+        None => {
+            let inner = mem::replace(&mut lists.top, new_frame(token, List::new(alloc)));
+            Ok(Some(closed(alloc, inner, token, &mut lists.spare)?))
+        }
     }
 }
 
@@ -215,11 +219,4 @@ fn fitted(
     exact.append(&mut items)?;
     spare.push(List::from_vec(items))?;
     Ok(Items::from_vec(exact))
-}
-
-fn with_item(mut frame: Frame, item: Tree) -> Result<Frame, AllocError>
-    ensures { IfOk result (λ it. it ≡ with_item item frame) }
-{
-    frame.items.push(item)?;
-    Ok(frame)
 }

@@ -5,7 +5,7 @@ use Rattle.mf_lex.proofs.growth.grow.Given as goal
 
 abbrev pub invariant-loop-tokens : goal.invariant-loop-tokens
 invariant-loop-tokens l = record {
-  same : grow l.source l.length l.tokens l.top (reverse l.lists.below) ≡ grow l.source l.length l.fn.tokens l.fn.top [];
+  same : grow l.source l.length l.tokens l.lists.top (reverse l.lists.below) ≡ grow l.source l.length l.fn.tokens l.fn.top [];
   inside : All (InFile l.source) l.tokens;
 }
 
