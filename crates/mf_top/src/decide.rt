@@ -1,7 +1,7 @@
 ghost use Rattle.std.specs.Prelude.{◌≡◌, ℕ, ◌≤◌, ◌⊎◌, ◌++◌, List, Some, IfOk};
 ghost use Rattle.std.specs.Str.{IsUtf8};
 ghost use Rattle.mf_io.specs.declared.folder.Loading.{Loading};
-ghost use Rattle.mf_plain.specs.PlainTask.{IsPlainTask};
+ghost use Rattle.mf_plain.specs.PlainTask.{HaveTopType, IsPlainTask};
 ghost use Rattle.mf_plain.specs.Searches.{IsSearched};
 ghost use Rattle.mf_search.specs.declared.status.Status.TheVariants as status;
 ghost use Rattle.mf_top.specs.declared.outcome.Outcome.TheVariants.{Stopped};
@@ -50,6 +50,7 @@ pub(crate) fn stopped(alloc: Global, stop: Stop) -> Decided
 // The plan of a search that took a goal, as a text.
 fn plan_found(alloc: Global, task: &TypedTask, searched: &Searched) -> Result<Text, Memory>
     requires plain { IsPlainTask task.now }
+    requires objects { HaveTopType task.now }
     requires searched { (budget : ℕ) × IsSearched task.now budget searched.now }
     requires goal { (goal : ℕ) × (searched.now.status ≡ status.Plan goal) }
     ensures { IfOk result (IsPlanText task.now searched.now) }
@@ -69,6 +70,7 @@ fn answer_of(
     searched: &Searched,
 ) -> Result<Answer, Memory>
     requires plain { IsPlainTask task.now }
+    requires objects { HaveTopType task.now }
     requires searched { IsSearched task.now budget searched.now }
     ensures { IfOk result (IsAnswerOf task.now budget searched.now.history) }
 {
@@ -86,6 +88,7 @@ fn answer_of(
 // The outcome of a search that returned.
 fn outcome_of(alloc: Global, task: &TypedTask, budget: u64, searched: &Searched) -> Outcome
     requires plain { IsPlainTask task.now }
+    requires objects { HaveTopType task.now }
     requires searched { IsSearched task.now budget searched.now }
     ensures { EndsSearch task.now budget searched.now.history result }
 {
@@ -100,6 +103,7 @@ fn outcome_of(alloc: Global, task: &TypedTask, budget: u64, searched: &Searched)
 // Searches for a plan of the task.
 fn solve(alloc: Global, task: &TypedTask, budget: u64) -> Decided
     requires plain { IsPlainTask task.now }
+    requires objects { HaveTopType task.now }
     requires some { 1 ≤ budget }
     ensures { EndsSearch task.now budget result.history result.outcome }
 {
@@ -114,7 +118,8 @@ fn solve(alloc: Global, task: &TypedTask, budget: u64) -> Decided
 
 // Searches for a plan of the task, if it is plain.
 fn decide_task(alloc: Global, task: &TypedTask, budget: u64) -> Decided
-    requires { 1 ≤ budget }
+    requires objects { HaveTopType task.now }
+    requires some { 1 ≤ budget }
     ensures { EndsTask task.now budget result.history result.outcome }
 {
     if is_plain(task) {
@@ -138,6 +143,7 @@ fn decide_plan<F: Folder>(
     ensures { (loads : List Loading) × (F.log files.new ≡ F.log files.old ++ loads)
         × EndsPlan (F.held files.old) domain.now problem.now budget loads result.history result.outcome }
 {
+    mf_input::objects_have_the_top_type();
     match load_task(alloc, domain, problem, files) {
         Ok(task) => decide_task(alloc, &task, budget),
         Err(stop) => stopped(alloc, stop),
