@@ -1,10 +1,9 @@
 -- What follows from how the search of a call ends.
-use Rattle.std.proofs.Common.{◌≡◌, ℕ, ◌⊎◌, ◌<◌, inl, inr, Option, Some, None, Contains, IfSome, List, [], ◌∷◌, ◌++◌, length, codes, refl, sym, subst, ap, ◌∙◌, arith}
+use Rattle.std.proofs.Common.{◌≡◌, ℕ, ◌⊎◌, ◌<◌, inl, inr, Option, Some, None, Contains, IfSome, List, ◌++◌, length, codes, refl, sym, subst, ◌∙◌, arith}
 use Rattle.std.specs.Fmt.{decimal}
 use Rattle.mf_io.specs.declared.folder.Loading.{Loading}
 use Rattle.mf_io.specs.Sink.{Appends}
 use Rattle.mf_model.specs.declared.task.TypedTask.{TypedTask}
-use Rattle.mf_plain.specs.PlainTask.{IsPlainTask}
 use Rattle.mf_search.specs.declared.status.Status.{Status}
 use Rattle.mf_search.specs.declared.status.Status.TheVariants as status
 use Rattle.mf_search.specs.World.{AllDifferent, world}
@@ -19,7 +18,6 @@ use Rattle.mf_plain.specs.PlainSpace.{space_of}
 use Rattle.mf_plain.specs.Searches.{IsSearched}
 use Rattle.mf_top.specs.declared.request.Request.{Request}
 use Rattle.mf_top.specs.declared.request.Request.TheVariants.{Plan, Validate}
-use Rattle.mf_top.specs.declared.outcome.Stop.{Stop}
 use Rattle.mf_top.specs.declared.outcome.Stop.TheVariants.{CannotRead, TooLong, Refused, PlanRefused, NotBuilt, OutOfMemory}
 use Rattle.mf_top.specs.declared.outcome.Answer.{Answer}
 use Rattle.mf_top.specs.declared.outcome.Answer.TheVariants.{PlanFound, NoPlan, BudgetReached}
@@ -27,11 +25,11 @@ use Rattle.mf_top.specs.declared.outcome.Outcome.{Outcome}
 use Rattle.mf_top.specs.declared.outcome.Outcome.TheVariants.{WordsRefused, Stopped, Answered, Judged}
 use Rattle.mf_top.specs.Calls.{Asks, Stands, PrintsPlan, HasNoPlan, IsAnswer, search_status, IsHistoryOf, IsEmptyOr, SaysBudget, IsGreedySearch}
 use Rattle.mf_top.specs.Loads.{Reads}
-use Rattle.mf_top.specs.Outcome.{no_history, IsAnswerOf, Ends, EndsBehind, EndsSearch, EndsTask, Runs}
+use Rattle.mf_top.specs.Outcome.{IsAnswerOf, Ends, EndsBehind, EndsSearch, EndsTask, Runs}
 use Rattle.mf_top.specs.Reading.{IsTaskOfLoads}
 use Rattle.mf_top.specs.Words.{AsksPlan}
-use Rattle.mf_top.specs.Texts.{answer_status, stop_status, status_of, answer_text, out_text, err_text}
-use Rattle.mf_top.proofs.CallLemmas.{Concluded, concluded, stands, wrote_nothing}
+use Rattle.mf_top.specs.Texts.{answer_status, status_of, answer_text, out_text, err_text}
+use Rattle.mf_top.proofs.CallLemmas.{concluded, stands, wrote_nothing}
 use Rattle.mf_top.proofs.Statuses.{not_five, not_eight, two_no_answer, stop_no_answer, memory_stands, stopped_status}
 
 -- the bytes that the folder tells

@@ -1,5 +1,5 @@
 -- What follows from how a call runs: its status, its words and its loads.
-use Rattle.std.proofs.Common.{◌≡◌, ◌≢◌, ℕ, ◌⊎◌, IsTrue, inl, inr, true, false, Option, Some, None, Result, Ok, Err, List, [], ◌∷◌, ◌++◌, map, codes, refl, sym, ◌∙◌, ap, subst, append-nil, arith}
+use Rattle.std.proofs.Common.{◌≡◌, ◌≢◌, ℕ, ◌⊎◌, IsTrue, inl, inr, Option, Some, None, Result, Ok, Err, List, [], ◌∷◌, ◌++◌, map, codes, refl, sym, ◌∙◌, ap, subst, append-nil, arith}
 use Rattle.std.proofs.lemmas.List.Prefix.{front_rest}
 use Rattle.mf_io.specs.declared.folder.Loading.{Loading}
 use Rattle.mf_io.specs.declared.sink.PutFault.{PutFault}
@@ -16,15 +16,15 @@ use Rattle.mf_top.specs.declared.outcome.Outcome.{Outcome}
 use Rattle.mf_top.specs.declared.outcome.Outcome.TheVariants.{WordsRefused, Stopped, Answered, Judged}
 use Rattle.mf_top.specs.Calls.{Stands, IsStatus, files_of, new_loads, last_failed, GrowsBy, SaysUnread}
 use Rattle.mf_top.specs.Delivery.{WritesBoth, final_status}
-use Rattle.mf_top.specs.Loads.{AreRead, found}
-use Rattle.mf_top.specs.Judging.{ReadsPlan, Judges, EndsTyped, EndsJudging, EndsLoaded, EndsValidate}
-use Rattle.mf_top.specs.Outcome.{Concludes, Ends, EndsBefore, EndsBehind, EndsSearch, EndsTask, Runs}
+use Rattle.mf_top.specs.Loads.{found}
+use Rattle.mf_top.specs.Judging.{ReadsPlan, Judges, EndsJudging, EndsLoaded, EndsValidate}
+use Rattle.mf_top.specs.Outcome.{Concludes, Ends, EndsSearch, EndsTask, Runs}
 use Rattle.mf_top.specs.Reading.{ReadsTask, StopsTask}
 use Rattle.mf_model.specs.declared.state.Instance.{Instance}
 use Rattle.mf_validator.specs.declared.verdict.Verdict.TheVariants as verdict
 use Rattle.mf_top.specs.declared.outcome.Judgement.TheVariants.{Said, TooWide}
 use Rattle.mf_top.specs.Promises.{LoadsFiles}
-use Rattle.mf_top.specs.Texts.{status_of, stop_status, stop_text, out_text, err_text}
+use Rattle.mf_top.specs.Texts.{status_of, stop_status, out_text, err_text}
 use Rattle.mf_top.proofs.LoadLemmas.{InOrder, in_order_by, all_in_order, stop_in_order, all_found, found_last, stop_failed, stop_four, stop_says}
 use Rattle.mf_top.proofs.Statuses.{stop_not_two, answer_not_two, answer_not_four, verdict_not_two, verdict_not_four, stopped_status}
 

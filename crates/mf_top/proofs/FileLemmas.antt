@@ -1,43 +1,29 @@
 -- When the files of a judgement are refused.
-use Rattle.std.proofs.Common.{◌≡◌, ◌≢◌, ℕ, IsTrue, ◌<◌, ◌≤◌, ◌⊎◌, inl, inr, Option, Some, None, Result, Ok, Err, IfSome, All, Contains, List, [], ◌∷◌, ◌++◌, length, codes, refl, sym, ◌∙◌, ap, subst, arith}
+use Rattle.std.proofs.Common.{◌≡◌, ℕ, IsTrue, inl, inr, Option, Some, None, Result, Ok, Err, List, [], ◌∷◌, refl, sym, ◌∙◌, subst, arith}
 use Rattle.mf_io.specs.declared.folder.Loading.{Loading}
 use Rattle.mf_io.specs.Sink.{Appends}
 use Rattle.mf_model.specs.declared.task.TypedTask.{TypedTask}
 use Rattle.mf_model.specs.declared.state.Instance.{Instance}
-use Rattle.mf_model.specs.Application.{instances_of}
 use Rattle.mf_input.specs.Files.{IsTaskOfFiles}
 use Rattle.mf_input.proofs.OneTask.{only_task}
 use Rattle.mf_plain.specs.declared.history.History.{History}
-use Rattle.mf_validator.specs.declared.fault.JudgeFault.{JudgeFault}
-use Rattle.mf_validator.specs.declared.fault.JudgeFault.TheVariants as judge
 use Rattle.mf_validator.specs.declared.fault.PlanFault.{PlanFault}
-use Rattle.mf_validator.specs.declared.verdict.Reported.{Reported}
-use Rattle.mf_validator.specs.declared.verdict.Verdict.{Verdict}
-use Rattle.mf_validator.specs.declared.verdict.Verdict.TheVariants as verdict
 use Rattle.mf_validator.specs.PlanText.{plan_of}
-use Rattle.mf_validator.specs.Validity.{IsValid, IsWideAt, Says}
-use Rattle.mf_validator.specs.Verdicts.{verdict_of}
-use Rattle.mf_validator.proofs.Exactness.{says-verdict, verdict-says, verdict-wide, wide-verdict}
 use Rattle.mf_top.specs.declared.request.Request.{Request}
 use Rattle.mf_top.specs.declared.request.Request.TheVariants.{Plan, Validate}
-use Rattle.mf_top.specs.declared.outcome.PlanFlaw.{PlanFlaw}
-use Rattle.mf_top.specs.declared.outcome.Judgement.{Judgement}
-use Rattle.mf_top.specs.declared.outcome.Judgement.TheVariants.{Said, TooWide}
 use Rattle.mf_top.specs.declared.outcome.Stop.{Stop}
 use Rattle.mf_top.specs.declared.outcome.Stop.TheVariants.{CannotRead, TooLong, Refused, PlanRefused, NotBuilt, OutOfMemory}
 use Rattle.mf_top.specs.declared.outcome.Outcome.{Outcome}
 use Rattle.mf_top.specs.declared.outcome.Outcome.TheVariants.{WordsRefused, Stopped, Answered, Judged}
-use Rattle.mf_top.specs.Calls.{Stands, SaysFirstRefusal}
-use Rattle.mf_top.specs.Judging.{fault_of, IsPlanIn, ReadsPlan, result_of, Judges, EndsTyped, EndsJudging, EndsLoaded, EndsValidate}
-use Rattle.mf_top.specs.Loads.{Reads, IsTooLong, StopsAt, StopsLoading, greatest_length}
+use Rattle.mf_top.specs.Calls.{Stands}
+use Rattle.mf_top.specs.Judging.{fault_of, ReadsPlan, Judges, EndsJudging}
+use Rattle.mf_top.specs.Loads.{StopsAt, StopsLoading}
 use Rattle.mf_top.specs.Outcome.{Ends, Runs}
-use Rattle.mf_top.specs.Reading.{ReadsTask}
-use Rattle.mf_top.specs.Texts.{status_of, stop_status, judgement_status, judgement_text, valid_text, step_fails_text, out_text}
-use Rattle.mf_top.specs.Verdicts.{AsksFor, AreAllowed, WritesPlan, HasPlanFlaw, IsRefusedJudging, IsValidFile, IsInvalidFile, IsWideFile, PrintsValid, PrintsFailure, PrintsWidth}
-use Rattle.mf_top.proofs.AnswerLemmas.{told_is}
+use Rattle.mf_top.specs.Texts.{status_of, stop_status}
+use Rattle.mf_top.specs.Verdicts.{AsksFor, AreAllowed, WritesPlan, IsRefusedJudging}
 use Rattle.mf_top.proofs.CallLemmas.{concluded, stands}
 use Rattle.mf_top.proofs.InputLemmas.{told_long, told_allowed}
-use Rattle.mf_top.proofs.Statuses.{IsVerdict, stop_no_verdict, memory_stands, stopped_status}
+use Rattle.mf_top.proofs.Statuses.{stopped_status}
 use Rattle.mf_top.specs.Calls.{SaysTooLong}
 use Rattle.mf_top.specs.Promises.{RefusesJudging}
 use Rattle.mf_top.specs.Verdicts.{SaysJudgingRefused, SaysPlanFlaw}

@@ -1,12 +1,10 @@
 -- When the input is refused, and when the call is complete.
-use Rattle.std.proofs.Common.{◌≡◌, ◌≢◌, ℕ, IsTrue, ◌<◌, ◌≤◌, ◌⊎◌, inl, inr, Option, Some, None, Err, IfSome, List, [], ◌∷◌, ◌++◌, length, codes, refl, sym, ◌∙◌, subst, arith}
+use Rattle.std.proofs.Common.{◌≡◌, ◌≢◌, ℕ, IsTrue, ◌<◌, ◌≤◌, ◌⊎◌, inl, inr, Option, Some, None, Err, IfSome, List, [], ◌∷◌, length, refl, sym, subst, arith}
 use Rattle.mf_io.specs.declared.folder.Loading.{Loading}
 use Rattle.mf_io.specs.Sink.{Appends, Rose}
 use Rattle.mf_model.specs.declared.task.TypedTask.{TypedTask}
 use Rattle.mf_plain.specs.PlainTask.{IsPlainTask}
-use Rattle.mf_input.specs.declared.refusal.Refusal.{Refusal}
 use Rattle.mf_input.specs.Files.{IsTaskOfFiles}
-use Rattle.mf_input.specs.Refusals.{RefusesFiles}
 use Rattle.mf_input.proofs.OneTask.{only_task}
 use Rattle.mf_plain.specs.declared.history.History.{History}
 use Rattle.mf_top.specs.declared.request.Request.{Request}
@@ -15,10 +13,10 @@ use Rattle.mf_top.specs.declared.outcome.Stop.{Stop}
 use Rattle.mf_top.specs.declared.outcome.Stop.TheVariants.{CannotRead, TooLong, Refused, PlanRefused, NotBuilt, OutOfMemory}
 use Rattle.mf_top.specs.declared.outcome.Outcome.{Outcome}
 use Rattle.mf_top.specs.declared.outcome.Outcome.TheVariants.{WordsRefused, Stopped, Answered, Judged}
-use Rattle.mf_top.specs.Calls.{Asks, Stands, IsStatus, new_loads, last_failed, HasNoPlainTask, IsRefusedInput, SaysFirstRefusal, SaysNotBuilt, SaysRefused, IsComplete}
+use Rattle.mf_top.specs.Calls.{Asks, Stands, IsStatus, new_loads, last_failed, HasNoPlainTask, IsRefusedInput, SaysFirstRefusal, SaysRefused, IsComplete}
 use Rattle.mf_top.specs.Loads.{Reads, IsTooLong, StopsLoading, greatest_length}
-use Rattle.mf_top.specs.Outcome.{Ends, EndsBehind, EndsSearch, EndsTask, Runs}
-use Rattle.mf_top.specs.Reading.{IsTaskOfLoads, ReadsLoads, ReadsTask, StopsTask, name_of}
+use Rattle.mf_top.specs.Outcome.{Ends, EndsSearch, EndsTask, Runs}
+use Rattle.mf_top.specs.Reading.{IsTaskOfLoads, ReadsTask, StopsTask}
 use Rattle.mf_top.specs.Promises.{RefusesInput}
 use Rattle.mf_top.specs.Texts.{status_of, stop_status, stop_text, out_text, err_text, too_long_text, refusal_text}
 use Rattle.mf_top.proofs.AnswerLemmas.{told_is, task_told}

@@ -1,5 +1,5 @@
 -- How the loads of files go together.
-use Rattle.std.proofs.Common.{◌≡◌, ℕ, IsTrue, true, false, inl, inr, Option, Result, Ok, Err, List, [], ◌∷◌, ◌++◌, map, refl, sym, ◌∙◌, ap, subst, append-nil, arith}
+use Rattle.std.proofs.Common.{◌≡◌, ℕ, IsTrue, false, inl, inr, Option, Result, Ok, Err, List, [], ◌∷◌, ◌++◌, map, refl, sym, ◌∙◌, ap, subst, append-nil, arith}
 use Rattle.std.proofs.lemmas.List.{append_assoc}
 use Rattle.std.proofs.lemmas.Bool.{false≢true}
 use Rattle.mf_io.specs.declared.folder.Loading.{Loading}
@@ -10,7 +10,7 @@ use Rattle.mf_top.specs.declared.outcome.Stop.{Stop}
 use Rattle.mf_top.specs.declared.outcome.Stop.TheVariants.{CannotRead, TooLong, Refused, PlanRefused, NotBuilt, OutOfMemory}
 use Rattle.mf_top.specs.Calls.{last_failed, OnlyLastFailed, SaysUnread}
 use Rattle.mf_top.specs.Loads.{Reads, LoadsFile, AreRead, StopsAt, StopsLoading, found, lost}
-use Rattle.mf_top.specs.Reading.{LoadsTask, ReadsTask, ReadsLoads, StopsTask}
+use Rattle.mf_top.specs.Reading.{LoadsTask, ReadsTask, StopsTask}
 use Rattle.mf_top.specs.Texts.{stop_status, stop_text, unread_text}
 
 -- Two files
@@ -28,12 +28,6 @@ stop_at held name before after NotBuilt load = absurd load
 -- the log behind a load of a file and further loads
 grown_by : (before middle after rest : List Loading) (first : Loading) → middle ≡ before ++ first ∷ [] → after ≡ middle ++ rest → after ≡ before ++ first ∷ rest
 grown_by before middle after rest first one others = others ∙ ap (λ log. log ++ rest) one ∙ append_assoc before (first ∷ []) rest
-
-pub first_stops : (held : List ℕ → Option (List ℕ)) (domain problem : List ℕ) (before after : List Loading) (stop : Stop) →
-    LoadsFile (held domain) domain before after (Err stop) → (loads : List Loading) × (after ≡ before ++ loads) × StopsTask held domain problem loads stop
-first_stops held domain problem before after stop load =
-    let at = stop_at held domain before after stop load in
-    (at.0, at.1, inl (inl at.2))
 
 -- the domain was read, and the load of the problem stops the call
 pub second_stops : (held : List ℕ → Option (List ℕ)) (domain problem bytes : List ℕ) (before middle after : List Loading) (stop : Stop) →

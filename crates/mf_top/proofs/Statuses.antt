@@ -1,7 +1,5 @@
 -- The statuses of stops and of searches.
 use Rattle.std.proofs.Common.{◌≡◌, ◌≢◌, ◌⊎◌, ℕ, inl, inr, refl, subst, arith}
-use Rattle.mf_plain.specs.declared.history.History.{History}
-use Rattle.mf_model.specs.declared.task.TypedTask.{TypedTask}
 use Rattle.mf_top.specs.declared.outcome.Stop.{Stop}
 use Rattle.mf_top.specs.declared.outcome.Stop.TheVariants.{CannotRead, TooLong, Refused, PlanRefused, NotBuilt, OutOfMemory}
 use Rattle.mf_top.specs.declared.outcome.Answer.{Answer}
@@ -10,7 +8,7 @@ use Rattle.mf_top.specs.declared.outcome.Judgement.{Judgement}
 use Rattle.mf_top.specs.declared.outcome.Judgement.TheVariants.{Said, TooWide}
 use Rattle.mf_validator.specs.declared.verdict.Verdict.TheVariants as verdict
 use Rattle.mf_top.specs.declared.outcome.Outcome.{Outcome}
-use Rattle.mf_top.specs.declared.outcome.Outcome.TheVariants.{WordsRefused, Stopped, Answered, Judged}
+use Rattle.mf_top.specs.declared.outcome.Outcome.TheVariants.{Stopped}
 use Rattle.mf_top.specs.Calls.{Stands, IsAnswer}
 use Rattle.mf_top.specs.Texts.{stop_status, answer_status, judgement_status, status_of}
 

@@ -1,6 +1,6 @@
 use Rattle.std.proofs.Common.{Ok, Err}
 use Rattle.std.proofs.lemmas.Result.{err_from_is_err_and}
-use Rattle.mf_top.proofs.LoadLemmas.{first_stops, second_stops, both_read, task_ends, load_kept, reads_same}
+use Rattle.mf_top.proofs.LoadLemmas.{second_stops, both_read, task_ends, load_kept, reads_same}
 use Rattle.mf_top.proofs.reading.load_task.Goals as goal
 
 pub returns-in_err-problem_bytes : goal.returns-in_err-problem_bytes
