@@ -21,7 +21,7 @@ use Rattle.mf_top.specs.declared.outcome.Stop.{Stop}
 use Rattle.mf_top.specs.declared.outcome.Stop.TheVariants.{CannotRead, TooLong, Refused, PlanRefused, NotBuilt, OutOfMemory}
 use Rattle.mf_top.specs.declared.outcome.Outcome.{Outcome}
 use Rattle.mf_top.specs.declared.outcome.Outcome.TheVariants.{WordsRefused, Stopped, Answered, Judged}
-use Rattle.mf_top.specs.Loads.{AreRead, StopsLoading, greatest_length}
+use Rattle.mf_top.specs.Loads.{AreRead, StopsLoading}
 use Rattle.mf_top.specs.Reading.{ReadsTask}
 
 -- the three files were loaded, or a load stops the call

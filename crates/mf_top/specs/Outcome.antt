@@ -1,18 +1,14 @@
 -- How a call comes to its outcome: the order of answers. The files are loaded in the order of the words, their bytes
 -- give a task or are refused, a task that isn't plain is refused, and the search comes last.
-use Rattle.std.specs.Prelude.{◌≡◌, ℕ, ◌⊎◌, Option, Some, None, Result, Ok, Err, List, [], ◌∷◌, ◌++◌, length}
+use Rattle.std.specs.Prelude.{◌≡◌, ℕ, ◌⊎◌, Option, Some, None, Result, List, [], ◌++◌, length}
 use Rattle.mf_io.specs.declared.folder.Loading.{Loading}
 use Rattle.mf_io.specs.declared.sink.PutFault.{PutFault}
-use Rattle.mf_model.specs.declared.form.FileKind.{FileKind}
-use Rattle.mf_model.specs.declared.form.FileKind.TheVariants.{DomainFile, ProblemFile}
 use Rattle.mf_model.specs.declared.task.TypedTask.{TypedTask}
 use Rattle.mf_model.specs.declared.state.Instance.{Instance}
 use Rattle.mf_plain.specs.PlainTask.{IsPlainTask}
 use Rattle.mf_model.specs.Plans.{IsPlan}
 use Rattle.mf_search.specs.declared.status.Status.{Status}
 use Rattle.mf_search.specs.declared.status.Status.TheVariants as status
-use Rattle.mf_input.specs.Files.{IsTaskOfFiles}
-use Rattle.mf_input.specs.Refusals.{RefusesFiles}
 use Rattle.mf_plain.specs.declared.history.History.{History}
 use Rattle.mf_plain.specs.declared.history.Searched.{Searched}
 use Rattle.mf_plain.specs.Searches.{IsSearched, IsTrace, world_of}

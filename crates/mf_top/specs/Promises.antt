@@ -1,12 +1,9 @@
 -- What a call promises, in groups: of its loads, of its input, of its answer and of its history.
-use Rattle.std.specs.Prelude.{◌≡◌, ℕ, ◌≤◌, Option, Ok, IfSome, List, codes}
+use Rattle.std.specs.Prelude.{◌≡◌, ℕ, Option, IfSome, List, codes}
 use Rattle.mf_io.specs.declared.folder.Loading.{Loading}
 use Rattle.mf_io.specs.Sink.{Appends}
 use Rattle.mf_plain.specs.declared.history.History.{History}
 use Rattle.mf_top.specs.declared.request.Request.{Request}
-use Rattle.mf_model.specs.declared.task.TypedTask.{TypedTask}
-use Rattle.mf_model.specs.declared.state.Instance.{Instance}
-use Rattle.mf_input.specs.Files.{IsTaskOfFiles}
 use Rattle.mf_top.specs.Verdicts.{WhereJudged, IsRefusedJudging, SaysJudgingRefused, PrintsValid, PrintsFailure, PrintsWidth, IsValidFile, IsInvalidFile, IsWideFile}
 use Rattle.mf_top.specs.Words.{AsksPlan}
 use Rattle.mf_top.specs.Calls.{WhereTold, Stands, GrowsBy, LastLoadFailed, SaysUnread, new_loads, IsRefusedInput, SaysRefused, PrintsPlan, HasNoPlan, BeginsNoPlan, SaysBudget, IsAnswer, IsHistoryOf, IsGreedySearch, IsEmptyOr}
