@@ -2,8 +2,6 @@
 use Rattle.std.proofs.Common.{◌≡◌, ℕ, inl, inr, Err, List, [], refl, sym, ◌∙◌, ap, subst}
 use Rattle.mf_model.specs.declared.token.Token.{Token}
 use Rattle.mf_model.specs.declared.tree.Tree.{Tree}
-use Rattle.mf_model.specs.declared.form.Domain.{Domain}
-use Rattle.mf_model.specs.declared.form.Problem.{Problem}
 use Rattle.mf_model.specs.Tokens.{IsTokens}
 use Rattle.mf_model.specs.Trees.{IsTreeOf}
 use Rattle.mf_lex.specs.declared.fault.LexFault.{LexFault}
@@ -15,14 +13,13 @@ use Rattle.mf_lex.specs.Answers.{IsTreeFault, NoTree}
 use Rattle.mf_lex.proofs.Whole.{unique_tree}
 use Rattle.mf_reader.specs.declared.fault.FormFault.{FormFault}
 use Rattle.mf_reader.specs.declared.fault.FormFault.TheVariants as form
+use Rattle.mf_reader.specs.Order.{IsAnsweredFault}
 use Rattle.mf_reader.specs.Said.{Said, FirstIs, Refuses}
-use Rattle.mf_reader.specs.Domains.{domain_of}
-use Rattle.mf_reader.specs.Problems.{problem_of}
 use Rattle.mf_input.specs.declared.refusal.FileFault.{FileFault}
 use Rattle.mf_input.specs.declared.refusal.FileFault.TheVariants as file
-use Rattle.mf_input.specs.Files.{Says, IsFileOf, IsDomain, IsProblem}
+use Rattle.mf_input.specs.Files.{Says, IsFileOf}
 use Rattle.mf_input.specs.Kinds.{lex_refusal, tree_refusal, form_refusal}
-use Rattle.mf_input.specs.Refusals.{ReadsTree, ReadsFile, RefusesFile, domain_form_faults, problem_form_faults}
+use Rattle.mf_input.specs.Refusals.{ReadsTree, ReadsFile}
 
 -- the tree
 
@@ -56,20 +53,20 @@ no_value reading source tree fault is_tree first value has =
     subst (FirstIs fault) empty first
 
 pub form_refused : {A : Type 0} (reading : Tree → Said A) (source : List ℕ) (tree : Tree) (fault : FormFault) → IsTreeOf source tree → Refuses fault (reading tree).faults →
-    ReadsFile (SaidBy reading) (λ t. (reading t).faults) source (Err (form_refusal fault))
-form_refused reading source tree (form.UnknownRequirement span) is_tree first = record {
-  refusal = inr (inl (refl, record { tree = tree; span = span; is_tree = is_tree; first = first; place = refl }));
+    IsAnsweredFault fault (reading tree).faults → ReadsFile (SaidBy reading) (λ t. (reading t).faults) source (Err (form_refusal fault))
+form_refused reading source tree (form.UnknownRequirement span) is_tree first least = record {
+  refusal = inr (inl (refl, record { tree = tree; span = span; is_tree = is_tree; first = first; least = least; place = refl }));
   none = no_value reading source tree (form.UnknownRequirement span) is_tree first;
 }
-form_refused reading source tree (form.LeftOut span) is_tree first = record {
-  refusal = inr (inr (inl (refl, record { tree = tree; span = span; is_tree = is_tree; first = first; place = refl })));
+form_refused reading source tree (form.LeftOut span) is_tree first least = record {
+  refusal = inr (inr (inl (refl, record { tree = tree; span = span; is_tree = is_tree; first = first; least = least; place = refl })));
   none = no_value reading source tree (form.LeftOut span) is_tree first;
 }
-form_refused reading source tree (form.BadForm span) is_tree first = record {
-  refusal = inr (inr (inr (refl, record { tree = tree; span = span; is_tree = is_tree; first = first; place = refl })));
+form_refused reading source tree (form.BadForm span) is_tree first least = record {
+  refusal = inr (inr (inr (refl, record { tree = tree; span = span; is_tree = is_tree; first = first; least = least; place = refl })));
   none = no_value reading source tree (form.BadForm span) is_tree first;
 }
-form_refused reading source tree form.Memory is_tree first = tt
+form_refused reading source tree form.Memory is_tree first least = tt
 
 -- a file without a tree is refused for its tokens or its brackets
 pub tree_lost : {A : Type 0} (Form : A → Tree → Type 0) (faults : Tree → List FormFault) (source : List ℕ) (fault : FileFault) →

@@ -1,6 +1,13 @@
 pub mod FileLemmas
+pub mod GrammarRows
 pub mod NameLemmas
 pub mod OneTask
 pub mod RoomConditions
 pub mod RoomEffects
 pub mod RoomTask
+pub mod ValidFiles
+pub mod WrittenConditions
+pub mod WrittenEffects
+pub mod WrittenExpressions
+pub mod WrittenFiles
+pub mod WrittenParts

@@ -1,6 +1,5 @@
 -- What both files say: they have a task, or a first refusal and none.
-use Rattle.std.proofs.Common.{◌≡◌, ℕ, ◌<◌, inl, inr, Result, Ok, Err, List, [], Contains, refl, sym, ◌∙◌, ap, subst, arith}
-use Rattle.mf_model.specs.declared.form.FileKind.{FileKind}
+use Rattle.std.proofs.Common.{◌≡◌, ℕ, ◌<◌, inl, inr, Result, Ok, Err, List, [], Contains, refl, subst, arith}
 use Rattle.mf_model.specs.declared.form.FileKind.TheVariants.{DomainFile, ProblemFile}
 use Rattle.mf_model.specs.declared.form.Domain.{Domain}
 use Rattle.mf_model.specs.declared.form.Problem.{Problem}
@@ -14,15 +13,13 @@ use Rattle.mf_types.specs.declared.least.FaultKind.TheVariants.{Twice, TypeCycle
 use Rattle.mf_types.specs.Faults.{fault_at, IsLeast}
 use Rattle.mf_types.specs.AllFaults.{faults_of}
 use Rattle.mf_types.specs.Resolved.{NamesFirst, fault_named}
-use Rattle.mf_types.specs.Tasks.{IsTaskOf}
-use Rattle.mf_input.specs.declared.refusal.Refusal.{Refusal}
 use Rattle.mf_input.specs.declared.refusal.FileFault.{FileFault}
 use Rattle.mf_input.specs.declared.refusal.FileFault.TheVariants as file
 use Rattle.mf_input.specs.declared.refusal.InputFault.{InputFault}
 use Rattle.mf_input.specs.declared.refusal.InputFault.TheVariants as input
 use Rattle.mf_input.specs.Files.{IsDomain, IsProblem, IsDomainFile, IsProblemFile, IsTaskOfFiles}
 use Rattle.mf_input.specs.Kinds.{file_refusal, name_refusal}
-use Rattle.mf_input.specs.Refusals.{ReadsFile, ReadsNames, ReadsProblem, ReadsFiles, IsFirstRefusal, HaveNoTask, domain_form_faults, problem_form_faults, refusal_of}
+use Rattle.mf_input.specs.Refusals.{ReadsFile, ReadsNames, ReadsProblem, ReadsFiles, IsFirstRefusal, HaveNoTask, domain_form_faults, problem_form_faults}
 use Rattle.mf_input.proofs.FileLemmas.{only_value}
 
 pub names_answer : (d : Domain) (p : Problem) (fault : NameFault) → NamesFirst d p (fault_named fault) → ReadsNames d p (Err (name_refusal fault))

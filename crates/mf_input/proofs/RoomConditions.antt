@@ -1,18 +1,16 @@
 -- Conditions that are read have at most 64 variables in scope at one place.
-use Rattle.std.proofs.Common.{◌≡◌, ℕ, suc, ◌+◌, ◌≤◌, max, nat_le, true, Option, Some, None, List, [], ◌∷◌, map, length, refl, subst, sym, ap, ◌∙◌, arith}
+use Rattle.std.proofs.Common.{◌≡◌, ℕ, ◌+◌, ◌≤◌, max, Option, Some, None, List, [], ◌∷◌, map, length, refl, subst, sym, ap, ◌∙◌, arith}
 use Rattle.std.proofs.lemmas.List.{length-map}
-use Rattle.mf_model.specs.declared.form.Word.{Word}
 use Rattle.mf_model.specs.declared.form.Typed.{Typed}
-use Rattle.mf_model.specs.declared.form.RawCond.{RawCond, fold-RawCond}
+use Rattle.mf_model.specs.declared.form.RawCond.{RawCond}
 use Rattle.mf_model.specs.declared.form.RawCond.TheOpen.{RawCond-F}
 use Rattle.mf_model.specs.declared.form.RawCond.TheFolds.{ind-RawCond, fold-roll-RawCond, map-RawCond}
-use Rattle.mf_model.specs.declared.task.Term.{Term}
 use Rattle.mf_model.specs.declared.task.Cond.{Cond}
 use Rattle.mf_model.specs.declared.task.Cond.TheVariants as c
 use Rattle.mf_model.specs.declared.task.Cond.TheOpen.{Cond-F}
 use Rattle.mf_model.specs.declared.task.Cond.TheViews.{roll-Cond}
 use Rattle.mf_model.specs.declared.task.Cond.TheFolds.{fold-roll-Cond, map-Cond}
-use Rattle.mf_model.specs.Options.{◌>>=◌, all_some}
+use Rattle.mf_model.specs.Options.{all_some}
 use Rattle.mf_types.specs.Names.{Declared, item_types}
 use Rattle.mf_types.specs.Typing.{Binders, inside, within, types_in, predicate_of, term_of, terms_of, expr_of, cond_step, cond_of}
 use Rattle.mf_types.proofs.Given.{IfGiven, given, then_given, made_given, both_given}

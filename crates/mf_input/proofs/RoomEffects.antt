@@ -1,8 +1,8 @@
 -- Effects that are read have at most 64 variables in scope at one place.
-use Rattle.std.proofs.Common.{◌≡◌, ℕ, ◌+◌, ◌≤◌, max, Option, Some, None, List, [], ◌∷◌, map, length, refl, subst, sym, ap, ◌∙◌, arith}
+use Rattle.std.proofs.Common.{◌≡◌, ℕ, ◌+◌, ◌≤◌, max, Option, List, map, length, subst, sym, ap, ◌∙◌}
 use Rattle.mf_model.specs.declared.form.Word.{Word}
 use Rattle.mf_model.specs.declared.form.RawExpr.{RawExpr}
-use Rattle.mf_model.specs.declared.form.RawEffect.{RawEffect, fold-RawEffect}
+use Rattle.mf_model.specs.declared.form.RawEffect.{RawEffect}
 use Rattle.mf_model.specs.declared.form.RawEffect.TheOpen.{RawEffect-F}
 use Rattle.mf_model.specs.declared.form.RawEffect.TheFolds.{ind-RawEffect, fold-roll-RawEffect, map-RawEffect}
 use Rattle.mf_model.specs.declared.task.Term.{Term}
@@ -12,7 +12,6 @@ use Rattle.mf_model.specs.declared.task.Effect.TheVariants as e
 use Rattle.mf_model.specs.declared.task.Effect.TheOpen.{Effect-F}
 use Rattle.mf_model.specs.declared.task.Effect.TheViews.{roll-Effect}
 use Rattle.mf_model.specs.declared.task.Effect.TheFolds.{fold-roll-Effect, map-Effect}
-use Rattle.mf_model.specs.Options.{◌>>=◌, all_some}
 use Rattle.mf_types.specs.Names.{Declared}
 use Rattle.mf_types.specs.Typing.{Binders, within, types_in, predicate_of, function_of, terms_of, expr_of, cond_of, literal, change, effect_step, effect_of}
 use Rattle.mf_types.proofs.Given.{IfGiven, then_given, made_given, both_given}

@@ -1,13 +1,12 @@
 -- Each task of two files leaves room for its variables.
-use Rattle.std.proofs.Common.{◌≡◌, ℕ, suc, ◌+◌, ◌≤◌, max, true, Option, Some, List, [], ◌∷◌, length, refl, subst, sym, ap, ◌∙◌, All, arith}
+use Rattle.std.proofs.Common.{◌≡◌, ℕ, ◌+◌, ◌≤◌, max, true, Option, Some, List, [], ◌∷◌, length, refl, ap, All, arith}
 use Rattle.std.proofs.lemmas.List.{length-map}
 use Rattle.mf_model.specs.declared.form.RawAction.{RawAction}
 use Rattle.mf_model.specs.declared.form.Domain.{Domain}
 use Rattle.mf_model.specs.declared.form.Problem.{Problem}
-use Rattle.mf_model.specs.declared.task.Object.{Object}
 use Rattle.mf_model.specs.declared.task.Action.{Action}
 use Rattle.mf_model.specs.declared.task.TypedTask.{TypedTask}
-use Rattle.mf_model.specs.Options.{◌>>=◌, each}
+use Rattle.mf_model.specs.Options.{each}
 use Rattle.mf_types.specs.Names.{Declared, declared_by, item_types}
 use Rattle.mf_types.specs.Typing.{inside, types_in, cond_of, effect_of}
 use Rattle.mf_types.specs.Tasks.{paired, object_named, action_of, IsTaskOf}

@@ -1,6 +1,5 @@
 -- Each fault of a reader as a refusal: its kind, and where it starts.
 use Rattle.std.specs.Prelude.{ℕ}
-use Rattle.mf_model.specs.declared.token.Span.{Span}
 use Rattle.mf_model.specs.declared.form.FileKind.{FileKind}
 use Rattle.mf_lex.specs.declared.fault.LexFault.{LexFault}
 use Rattle.mf_lex.specs.declared.fault.LexFault.TheVariants as lex

@@ -1,5 +1,5 @@
 -- The limits that the task of two files keeps.
-use Rattle.std.specs.Prelude.{ℕ, ◌+◌, ◌≤◌, Some, length}
+use Rattle.std.specs.Prelude.{◌+◌, ◌≤◌, Some, length}
 use Rattle.std.specs.List.{All}
 use Rattle.mf_model.specs.declared.task.TypedTask.{TypedTask}
 use Rattle.mf_eval.specs.Scope.{action_scope_of, scope_of}

@@ -1,10 +1,9 @@
 -- Why two files have no task: the first refusal, in the order of reading. Of the domain its tokens, its tree and its
 -- form are read, then the same of the problem, and then the names of both.
-use Rattle.std.specs.Prelude.{◌≡◌, ℕ, ◌⊎◌, Result, Ok, Err, List, [], ◌∷◌}
+use Rattle.std.specs.Prelude.{◌≡◌, ℕ, ◌⊎◌, Result, Ok, Err, List, []}
 use Rattle.mf_model.specs.declared.token.Span.{Span}
 use Rattle.mf_model.specs.declared.token.Token.{Token}
 use Rattle.mf_model.specs.declared.tree.Tree.{Tree}
-use Rattle.mf_model.specs.declared.form.FileKind.{FileKind}
 use Rattle.mf_model.specs.declared.form.FileKind.TheVariants.{DomainFile, ProblemFile}
 use Rattle.mf_model.specs.declared.form.Domain.{Domain}
 use Rattle.mf_model.specs.declared.form.Problem.{Problem}
@@ -14,6 +13,7 @@ use Rattle.mf_model.specs.Trees.{IsTreeOf, UnbalancedAt, TooDeepAt}
 use Rattle.mf_reader.specs.declared.fault.FormFault.{FormFault}
 use Rattle.mf_reader.specs.declared.fault.FormFault.TheVariants as form
 use Rattle.mf_reader.specs.Said.{FirstIs}
+use Rattle.mf_reader.specs.Order as form_order
 use Rattle.mf_reader.specs.Domains.{domain_of}
 use Rattle.mf_reader.specs.Problems.{problem_of}
 use Rattle.mf_types.specs.declared.least.Fault.{Fault}
@@ -33,12 +33,13 @@ use Rattle.mf_input.specs.Files.{IsFileOf, IsProblem, IsDomainFile, IsProblemFil
 
 -- One file
 
--- the first of the faults of the file's form
+-- the first of the faults of the file's form, which is the one of the least start
 pub record IsFormRefusal (faults : Tree → List FormFault) (source : List ℕ) (fault : Span → FormFault) (at : ℕ) : Type 0 where
   pub tree : Tree
   pub span : Span
   pub is_tree : IsTreeOf source tree
   pub first : FirstIs (fault span) (faults tree)
+  pub least : form_order.IsLeast (fault span) (faults tree)
   pub place : at ≡ span.start
 
 -- the bytes or the brackets are refused for this reason at this place

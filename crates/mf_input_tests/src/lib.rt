@@ -4,8 +4,16 @@
 #[cfg(test)]
 mod limits;
 #[cfg(test)]
+mod lines;
+#[cfg(test)]
 mod marked;
 #[cfg(test)]
+mod meanings;
+#[cfg(test)]
 mod names;
+#[cfg(test)]
+mod sheet;
+#[cfg(test)]
+mod shown;
 #[cfg(test)]
 mod tasks;

@@ -3,7 +3,7 @@ use std::alloc::Global;
 
 // Each domain with a problem of it.
 
-const PARCELS: [&str; 2] = [
+pub(crate) const PARCELS: [&str; 2] = [
     "(define (domain parcels)
  (:requirements :typing :adl :fluents :action-costs)
  (:types truck van - vehicle vehicle parcel - thing depot shop - place)
@@ -91,7 +91,7 @@ const RING: [&str; 2] = [
  (:goal (and (at r2) (at r3))))",
 ];
 
-const RING_COST: [&str; 2] = [
+pub(crate) const RING_COST: [&str; 2] = [
     "(define (domain ring) (:predicates (at ?r) (next ?a ?b)) (:functions (total-cost) - number)
  (:action go :parameters (?a ?b) :precondition (and (at ?a) (next ?a ?b))
   :effect (and (at ?b) (not (at ?a)) (increase (total-cost) 1))))",
