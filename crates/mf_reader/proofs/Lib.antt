@@ -5,7 +5,7 @@ mod Choices
 mod CondReadings
 mod CondSound
 mod DeclReadings
-mod DomainReadings
+pub mod DomainReadings
 mod EffectReadings
 mod EffectSound
 mod ExprReadings
@@ -18,7 +18,7 @@ mod HeadReadings
 mod InitReadings
 mod LawForms
 mod PartOrder
-mod ProblemReadings
+pub mod ProblemReadings
 mod Readings
 mod Rows
 mod SectionOrder
