@@ -13,11 +13,12 @@ use Rattle.mf_lex.specs.Answers.{IsTreeFault, NoTree}
 use Rattle.mf_lex.proofs.Whole.{unique_tree}
 use Rattle.mf_reader.specs.declared.fault.FormFault.{FormFault}
 use Rattle.mf_reader.specs.declared.fault.FormFault.TheVariants as form
+use Rattle.mf_reader.specs.Laws.{IsReadingOf}
 use Rattle.mf_reader.specs.Order.{IsAnsweredFault}
 use Rattle.mf_reader.specs.Said.{Said, FirstIs, Refuses}
 use Rattle.mf_input.specs.declared.refusal.FileFault.{FileFault}
 use Rattle.mf_input.specs.declared.refusal.FileFault.TheVariants as file
-use Rattle.mf_input.specs.Files.{Says, IsFileOf}
+use Rattle.mf_input.specs.Files.{IsFileOf}
 use Rattle.mf_input.specs.Kinds.{lex_refusal, tree_refusal, form_refusal}
 use Rattle.mf_input.specs.Refusals.{ReadsTree, ReadsFile}
 
@@ -34,39 +35,38 @@ tree_refused source tokens (tree.Unbalanced at) are is none = ((tokens, are, is)
 tree_refused source tokens (tree.TooDeep at) are is none = ((tokens, are, is), none)
 tree_refused source tokens tree.Memory are is none = tt
 
--- the form
+-- the form, which agrees with a reading
 
-abbrev SaidBy : {A : Type 0} → (Tree → Said A) → A → Tree → Type 0
-SaidBy reading value tree = Says (reading tree) value
+pub only_value : {A : Type 0} (reading : Tree → Said A) (Form : A → Tree → Type 0) → IsReadingOf reading Form → (source : List ℕ) (left right : A) →
+    IsFileOf Form source left → IsFileOf Form source right → left ≡ right
+only_value {A = A} reading Form reads source left right one other =
+    let same : other.tree ≡ one.tree = unique_tree source other.tree one.tree other.is_tree one.is_tree in
+    let form : Form right one.tree = subst (Form right) same other.form in
+    ap (λ (x : Said A). x.value) (sym (reads.complete one.tree left one.form) ∙ reads.complete one.tree right form)
 
-pub only_value : {A : Type 0} (reading : Tree → Said A) (source : List ℕ) (left right : A) →
-    IsFileOf (SaidBy reading) source left → IsFileOf (SaidBy reading) source right → left ≡ right
-only_value reading source left right one other =
-    let same : one.tree ≡ other.tree = unique_tree source one.tree other.tree one.is_tree other.is_tree in
-    sym one.form.1 ∙ (ap (λ t. (reading t).value) same ∙ other.form.1)
-
-no_value : {A : Type 0} (reading : Tree → Said A) (source : List ℕ) (tree : Tree) (fault : FormFault) → IsTreeOf source tree → FirstIs fault (reading tree).faults →
-    (value : A) → IsFileOf (SaidBy reading) source value → ⊥
-no_value reading source tree fault is_tree first value has =
+no_value : {A : Type 0} (reading : Tree → Said A) (Form : A → Tree → Type 0) → IsReadingOf reading Form → (source : List ℕ) (tree : Tree) (fault : FormFault) → IsTreeOf source tree →
+    FirstIs fault (reading tree).faults → (value : A) → IsFileOf Form source value → ⊥
+no_value {A = A} reading Form reads source tree fault is_tree first value has =
     let same : has.tree ≡ tree = unique_tree source has.tree tree has.is_tree is_tree in
-    let empty : (reading tree).faults ≡ [] = subst (λ t. (reading t).faults ≡ []) same has.form.0 in
+    let none : (reading has.tree).faults ≡ [] = ap (λ (x : Said A). x.faults) (reads.complete has.tree value has.form) in
+    let empty : (reading tree).faults ≡ [] = subst (λ t. (reading t).faults ≡ []) same none in
     subst (FirstIs fault) empty first
 
-pub form_refused : {A : Type 0} (reading : Tree → Said A) (source : List ℕ) (tree : Tree) (fault : FormFault) → IsTreeOf source tree → Refuses fault (reading tree).faults →
-    IsAnsweredFault fault (reading tree).faults → ReadsFile (SaidBy reading) (λ t. (reading t).faults) source (Err (form_refusal fault))
-form_refused reading source tree (form.UnknownRequirement span) is_tree first least = record {
+pub form_refused : {A : Type 0} (reading : Tree → Said A) (Form : A → Tree → Type 0) → IsReadingOf reading Form → (source : List ℕ) (tree : Tree) (fault : FormFault) → IsTreeOf source tree →
+    Refuses fault (reading tree).faults → IsAnsweredFault fault (reading tree).faults → ReadsFile Form (λ t. (reading t).faults) source (Err (form_refusal fault))
+form_refused reading Form reads source tree (form.UnknownRequirement span) is_tree first least = record {
   refusal = inr (inl (refl, record { tree = tree; span = span; is_tree = is_tree; first = first; least = least; place = refl }));
-  none = no_value reading source tree (form.UnknownRequirement span) is_tree first;
+  none = no_value reading Form reads source tree (form.UnknownRequirement span) is_tree first;
 }
-form_refused reading source tree (form.LeftOut span) is_tree first least = record {
+form_refused reading Form reads source tree (form.LeftOut span) is_tree first least = record {
   refusal = inr (inr (inl (refl, record { tree = tree; span = span; is_tree = is_tree; first = first; least = least; place = refl })));
-  none = no_value reading source tree (form.LeftOut span) is_tree first;
+  none = no_value reading Form reads source tree (form.LeftOut span) is_tree first;
 }
-form_refused reading source tree (form.BadForm span) is_tree first least = record {
+form_refused reading Form reads source tree (form.BadForm span) is_tree first least = record {
   refusal = inr (inr (inr (refl, record { tree = tree; span = span; is_tree = is_tree; first = first; least = least; place = refl })));
-  none = no_value reading source tree (form.BadForm span) is_tree first;
+  none = no_value reading Form reads source tree (form.BadForm span) is_tree first;
 }
-form_refused reading source tree form.Memory is_tree first least = tt
+form_refused reading Form reads source tree form.Memory is_tree first least = tt
 
 -- a file without a tree is refused for its tokens or its brackets
 pub tree_lost : {A : Type 0} (Form : A → Tree → Type 0) (faults : Tree → List FormFault) (source : List ℕ) (fault : FileFault) →

@@ -5,7 +5,10 @@ use Rattle.mf_model.specs.declared.form.Domain.{Domain}
 use Rattle.mf_model.specs.declared.form.Problem.{Problem}
 use Rattle.mf_model.specs.declared.task.TypedTask.{TypedTask}
 use Rattle.mf_reader.specs.Domains.{domain_of}
+use Rattle.mf_reader.specs.GrammarFiles.{IsDomain, IsProblem}
 use Rattle.mf_reader.specs.Problems.{problem_of}
+use Rattle.mf_reader.proofs.DomainReadings.{domain_reads}
+use Rattle.mf_reader.proofs.ProblemReadings.{problem_reads}
 use Rattle.mf_types.specs.declared.fault.NameFault.{NameFault}
 use Rattle.mf_types.specs.declared.fault.NameFault.TheVariants as name
 use Rattle.mf_types.specs.declared.least.Fault.{Fault}
@@ -17,7 +20,7 @@ use Rattle.mf_input.specs.declared.refusal.FileFault.{FileFault}
 use Rattle.mf_input.specs.declared.refusal.FileFault.TheVariants as file
 use Rattle.mf_input.specs.declared.refusal.InputFault.{InputFault}
 use Rattle.mf_input.specs.declared.refusal.InputFault.TheVariants as input
-use Rattle.mf_input.specs.Files.{IsDomain, IsProblem, IsDomainFile, IsProblemFile, IsTaskOfFiles}
+use Rattle.mf_input.specs.Files.{IsDomainFile, IsProblemFile, IsTaskOfFiles}
 use Rattle.mf_input.specs.Kinds.{file_refusal, name_refusal}
 use Rattle.mf_input.specs.Refusals.{ReadsFile, ReadsNames, ReadsProblem, ReadsFiles, IsFirstRefusal, HaveNoTask, domain_form_faults, problem_form_faults}
 use Rattle.mf_input.proofs.FileLemmas.{only_value}
@@ -54,8 +57,8 @@ faults_remain d p fault least none =
 names_none : (domain_source problem_source : List ℕ) (d : Domain) (p : Problem) (fault : Fault) → IsDomainFile domain_source d → IsProblemFile problem_source p → IsLeast (faults_of d p) fault →
     (task : TypedTask) → IsTaskOfFiles domain_source problem_source task → ⊥
 names_none domain_source problem_source d p fault d_is p_is least task has =
-    let same_domain : has.domain ≡ d = only_value domain_of domain_source has.domain d has.domain_file d_is in
-    let same_problem : has.problem ≡ p = only_value problem_of problem_source has.problem p has.problem_file p_is in
+    let same_domain : has.domain ≡ d = only_value domain_of IsDomain domain_reads domain_source has.domain d has.domain_file d_is in
+    let same_problem : has.problem ≡ p = only_value problem_of IsProblem problem_reads problem_source has.problem p has.problem_file p_is in
     faults_remain d p fault least (subst (λ it. faults_of it p ≡ []) same_domain (subst (λ it. faults_of has.domain it ≡ []) same_problem has.faultless))
 
 pub files_answer : (domain_source problem_source : List ℕ) (d : Domain) (result : Result TypedTask InputFault) → IsDomainFile domain_source d → ReadsProblem d problem_source result →

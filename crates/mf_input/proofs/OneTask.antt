@@ -12,7 +12,10 @@ use Rattle.mf_model.specs.declared.task.Cond.{Cond}
 use Rattle.mf_model.specs.declared.task.Metric.{Metric}
 use Rattle.mf_model.specs.declared.task.TypedTask.{TypedTask}
 use Rattle.mf_reader.specs.Domains.{domain_of}
+use Rattle.mf_reader.specs.GrammarFiles.{IsDomain, IsProblem}
 use Rattle.mf_reader.specs.Problems.{problem_of}
+use Rattle.mf_reader.proofs.DomainReadings.{domain_reads}
+use Rattle.mf_reader.proofs.ProblemReadings.{problem_reads}
 use Rattle.mf_types.specs.Tasks.{IsTaskOf}
 use Rattle.mf_input.specs.Files.{IsTaskOfFiles}
 use Rattle.mf_input.proofs.FileLemmas.{only_value}
@@ -66,7 +69,7 @@ only_task_of d p left right one other =
 
 pub only_task : (domain problem : List ℕ) (left right : TypedTask) → IsTaskOfFiles domain problem left → IsTaskOfFiles domain problem right → left ≡ right
 only_task domain problem left right one other =
-    let same_domain : other.domain ≡ one.domain = only_value domain_of domain other.domain one.domain other.domain_file one.domain_file in
-    let same_problem : other.problem ≡ one.problem = only_value problem_of problem other.problem one.problem other.problem_file one.problem_file in
+    let same_domain : other.domain ≡ one.domain = only_value domain_of IsDomain domain_reads domain other.domain one.domain other.domain_file one.domain_file in
+    let same_problem : other.problem ≡ one.problem = only_value problem_of IsProblem problem_reads problem other.problem one.problem other.problem_file one.problem_file in
     only_task_of one.domain one.problem left right one.task_of
     (subst (λ d. IsTaskOf d one.problem right) same_domain (subst (λ p. IsTaskOf other.domain p right) same_problem other.task_of))

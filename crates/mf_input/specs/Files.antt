@@ -5,23 +5,11 @@ use Rattle.mf_model.specs.declared.form.Domain.{Domain}
 use Rattle.mf_model.specs.declared.form.Problem.{Problem}
 use Rattle.mf_model.specs.declared.task.TypedTask.{TypedTask}
 use Rattle.mf_model.specs.Trees.{IsTreeOf}
-use Rattle.mf_reader.specs.Said.{Said}
-use Rattle.mf_reader.specs.Domains.{domain_of}
-use Rattle.mf_reader.specs.Problems.{problem_of}
+use Rattle.mf_reader.specs.GrammarFiles.{IsDomain, IsProblem}
 use Rattle.mf_types.specs.Tasks.{IsTaskOf}
 use Rattle.mf_types.specs.AllFaults.{faults_of}
 
--- no fault stands in the tree, and this is its value
-abbrev pub Says : {A : Type 0} → Said A → A → Type 0
-Says reading value = (reading.faults ≡ []) × (reading.value ≡ value)
-
-abbrev pub IsDomain : Domain → Tree → Type 0
-IsDomain domain tree = Says (domain_of tree) domain
-
-abbrev pub IsProblem : Problem → Tree → Type 0
-IsProblem problem tree = Says (problem_of tree) problem
-
--- the value that the tree of a file has by a form
+-- the value that the tree of a file has by a form of the grammar
 pub record IsFileOf {A : Type 0} (Form : A → Tree → Type 0) (source : List ℕ) (value : A) : Type 0 where
   pub tree : Tree
   pub is_tree : IsTreeOf source tree

@@ -12,6 +12,7 @@ use Rattle.mf_model.specs.Tokens.{IsTokens, BadByteAt, TooLongAt, IsCleanBelow}
 use Rattle.mf_model.specs.Trees.{IsTreeOf, UnbalancedAt, TooDeepAt}
 use Rattle.mf_reader.specs.declared.fault.FormFault.{FormFault}
 use Rattle.mf_reader.specs.declared.fault.FormFault.TheVariants as form
+use Rattle.mf_reader.specs.GrammarFiles.{IsProblem}
 use Rattle.mf_reader.specs.Said.{FirstIs}
 use Rattle.mf_reader.specs.Order as form_order
 use Rattle.mf_reader.specs.Domains.{domain_of}
@@ -29,7 +30,7 @@ use Rattle.mf_input.specs.declared.refusal.FileFault.TheVariants as file
 use Rattle.mf_input.specs.declared.refusal.InputFault.{InputFault}
 use Rattle.mf_input.specs.declared.refusal.InputFault.TheVariants as input
 use Rattle.mf_types.specs.Tasks.{IsTaskOf}
-use Rattle.mf_input.specs.Files.{IsFileOf, IsProblem, IsDomainFile, IsProblemFile, IsTaskOfFiles}
+use Rattle.mf_input.specs.Files.{IsFileOf, IsDomainFile, IsProblemFile, IsTaskOfFiles}
 
 -- One file
 

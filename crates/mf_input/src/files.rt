@@ -1,5 +1,5 @@
 ghost use Rattle.std.specs.Prelude.{◌≡◌, ◌≤◌, Err, length};
-ghost use Rattle.mf_input.specs.Files.{IsDomain, IsProblem};
+ghost use Rattle.mf_reader.specs.GrammarFiles.{IsDomain, IsProblem};
 ghost use Rattle.mf_input.specs.Kinds.{lex_refusal, tree_refusal, form_refusal};
 ghost use Rattle.mf_input.specs.Refusals.{ReadsTree, ReadsFile, domain_form_faults, problem_form_faults};
 

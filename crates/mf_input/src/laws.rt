@@ -10,8 +10,6 @@ ghost use Rattle.mf_types.specs.Written.{IsWritten};
 ghost use Rattle.mf_input.specs.Files.{IsTaskOfFiles};
 ghost use Rattle.mf_input.specs.Limits.{IsWithinLimits};
 
-use mf_reader::{domains_are_read, problems_are_read};
-
 /// Two files have one task at most.
 pub fn task_is_unique()
     ensures { (domain problem : List ℕ) (left right : TypedTask) → IsTaskOfFiles domain problem left → IsTaskOfFiles domain problem right → left ≡ right }
@@ -39,7 +37,4 @@ pub fn forms_are_written()
 /// number of steps.
 pub fn task_is_valid()
     ensures { (domain problem : List ℕ) (task : TypedTask) → IsTaskOfFiles domain problem task → IsValidTask task }
-{
-    domains_are_read();
-    problems_are_read();
-}
+{}

@@ -1,5 +1,7 @@
 use Rattle.mf_lex.proofs.Places.{placed}
 use Rattle.mf_reader.specs.Domains.{domain_of}
+use Rattle.mf_reader.specs.GrammarFiles.{IsDomain}
+use Rattle.mf_reader.proofs.DomainReadings.{domain_reads}
 use Rattle.mf_input.proofs.FileLemmas.{form_refused}
 use Rattle.mf_input.proofs.files.domain_file.Goals as goal
 
@@ -7,4 +9,4 @@ pub returns : goal.returns
 returns c =
     let is_tree = c.in_ok-tree.ensures in
     let least = c.in-Err.ensures.least (placed c.args.source.now c.in_ok-tree.tree is_tree) in
-    rw c.form_fault.ensures (form_refused domain_of c.args.source.now c.in_ok-tree.tree c.in-Err.fault is_tree c.in-Err.ensures.reads least)
+    rw c.form_fault.ensures (form_refused domain_of IsDomain domain_reads c.args.source.now c.in_ok-tree.tree c.in-Err.fault is_tree c.in-Err.ensures.reads least)
