@@ -1,19 +1,11 @@
--- Going up from a type to its parent, the parent's parent and so on: a type from which type 0 is never met leads to
--- a type that descends from itself.
-use Rattle.std.proofs.Common.{◌≡◌, ℕ, zero, suc, ◌<◌, ◌≤◌, ◌⊎◌, inl, inr, Bool, true, false, ◌||◌, if◌then◌else◌, eqb, nat_eq, List, [], ◌∷◌, length, slice_index_or, refl, sym, ap, ◌∙◌, arith}
-use Rattle.std.specs.List.{list_any, AllByRecursion, IsDistinct}
+-- Going up: on a cycle the way leads round, and what is met above a type is so many steps up.
+use Rattle.std.proofs.Common.{◌≡◌, ℕ, zero, suc, ◌<◌, ◌≤◌, ◌⊎◌, inl, inr, Bool, true, false, ◌||◌, if◌then◌else◌, nat_eq, List, [], ◌∷◌, length, refl, sym, ap, ◌∙◌, arith}
 use Rattle.std.proofs.lemmas.Bool.{cases_lt}
-use Rattle.std.proofs.lemmas.Bool.Decides.{Decides-eqb, nat_tests}
-use Rattle.std.proofs.lemmas.Map.Steps.{length-le_from_distinct_below}
-use Rattle.mf_model.specs.Objects.{ancestors, member}
-
-abbrev pub parent_at : List ℕ → ℕ → ℕ
-parent_at parents t = slice_index_or parents t 0
-
--- the type so many steps up
-abbrev pub up : List ℕ → ℕ → ℕ → ℕ
-up parents zero t = t
-up parents (suc n) t = up parents n (parent_at parents t)
+use Rattle.std.proofs.lemmas.Bool.Decides.{Decides-eqb}
+use Rattle.mf_model.specs.Objects.{meets, member}
+use Rattle.mf_types.specs.Ascent.{parent_at, up, IsOnCycle, Meets}
+use Rattle.mf_types.specs.Cycles.{is_top, above, all_above}
+use Rattle.mf_types.proofs.Walked.{met_here}
 
 pub up_last : (parents : List ℕ) (n t : ℕ) → up parents (suc n) t ≡ parent_at parents (up parents n t)
 up_last parents zero t = refl
@@ -21,19 +13,11 @@ up_last parents (suc n) t = up_last parents n (parent_at parents t)
 
 -- Cycles
 
--- a type that is met again on the way up from it, where type 0 is not met
-pub record IsOnCycle (parents : List ℕ) (t : ℕ) : Type 0 where
-  pub steps : ℕ
-  pub some : 0 < steps
-  pub few : steps ≤ length parents
-  pub back : up parents steps t ≡ t
-  pub never_top : (i : ℕ) → i < steps → up parents i t ≡ 0 → ⊥
-
-never_above : (parents : List ℕ) (t : ℕ) (on : IsOnCycle parents t) (i : ℕ) → i < on.steps → up parents (suc i) t ≡ 0 → (suc i < on.steps) ⊎ (on.steps ≤ suc i) → ⊥
-never_above parents t on i h e (inl l) = on.never_top (suc i) l e
-never_above parents t on i h e (inr l) =
-    let last : on.steps ≡ suc i = omega (arith, h, l) in
-    on.never_top 0 on.some (sym on.back ∙ ap (λ (n : ℕ). up parents n t) last ∙ e)
+open_above : (parents : List ℕ) (t : ℕ) (on : IsOnCycle parents t) (i : ℕ) → i < on.steps → (suc i < on.steps) ⊎ (on.steps ≤ suc i) → is_top parents (up parents (suc i) t) ≡ false
+open_above parents t on i h (inl l) = on.open_below (suc i) l
+open_above parents t on i h (inr l) =
+    let last : suc i ≡ on.steps = omega (arith, h, l) in
+    ap (λ (n : ℕ). is_top parents (up parents n t)) last ∙ (ap (is_top parents) on.back ∙ on.open_below 0 on.some)
 
 pub parent_on_cycle : (parents : List ℕ) (t : ℕ) → IsOnCycle parents t → IsOnCycle parents (parent_at parents t)
 parent_on_cycle parents t on = record {
@@ -41,116 +25,102 @@ parent_on_cycle parents t on = record {
   some = on.some;
   few = on.few;
   back = up_last parents on.steps t ∙ ap (parent_at parents) on.back;
-  never_top = λ i h e. never_above parents t on i h e (cases_lt (suc i) on.steps);
+  open_below = λ i h. open_above parents t on i h (cases_lt (suc i) on.steps);
 }
 
 pub above_on_cycle : (parents : List ℕ) (n t : ℕ) → IsOnCycle parents t → IsOnCycle parents (up parents n t)
 above_on_cycle parents zero t on = on
 above_on_cycle parents (suc n) t on = above_on_cycle parents n (parent_at parents t) (parent_on_cycle parents t on)
 
--- The first types on the way up: either no two are the same, or one of them is on a cycle
+-- a place within one round
+pub record IsInRound (parents : List ℕ) (t steps w : ℕ) : Type 0 where
+  pub place : ℕ
+  pub within : place < steps
+  pub there : up parents place t ≡ w
 
-abbrev pub trail : List ℕ → ℕ → ℕ → List ℕ
-trail parents zero t = []
-trail parents (suc n) t = t ∷ trail parents n (parent_at parents t)
+-- each type above one on a cycle is met in the first round
+pub in_round : (parents : List ℕ) (t steps : ℕ) → 0 < steps → up parents steps t ≡ t → (n : ℕ) → IsInRound parents t steps (up parents n t)
+in_round parents t steps some back zero = record { place = 0; within = some; there = refl }
+in_round parents t steps some back (suc n) = by (in_round parents t steps some back n)
+  where
+    next : (round : IsInRound parents t steps (up parents n t)) → (suc round.place < steps) ⊎ (steps ≤ suc round.place) → IsInRound parents t steps (up parents (suc n) t)
+    next round (inl l) = record { place = suc round.place; within = l; there = up_last parents round.place t ∙ (ap (parent_at parents) round.there ∙ sym (up_last parents n t)) }
+    next round (inr l) =
+        let within = round.within in
+        let last : steps ≡ suc round.place = omega (arith, within, l) in
+        record { place = 0; within = some; there = sym back ∙ (ap (λ (m : ℕ). up parents m t) last ∙ (up_last parents round.place t ∙ (ap (parent_at parents) round.there ∙ sym (up_last parents n t)))) }
+    by : IsInRound parents t steps (up parents n t) → IsInRound parents t steps (up parents (suc n) t)
+    by round = next round (cases_lt (suc round.place) steps)
 
-length_trail : (parents : List ℕ) (n t : ℕ) → length (trail parents n t) ≡ n
-length_trail parents zero t = refl
-length_trail parents (suc n) t = ap suc (length_trail parents n (parent_at parents t))
+-- A type so many steps up is met above
 
-abbrev IsApart : ℕ → List ℕ → Type 0
-IsApart w ts = AllByRecursion (λ t. eqb w t ≡ false) ts
+met_further : (w t : ℕ) (ts : List ℕ) → member w ts ≡ true → member w (t ∷ ts) ≡ true
+met_further w t ts e = by (nat_eq w t)
+  where
+    by : (b : Bool) → (b || member w ts) ≡ true
+    by true = refl
+    by false = e
 
-pub record IsMet (parents : List ℕ) (w n t : ℕ) : Type 0 where
+past_top : (parents : List ℕ) (w n t : ℕ) → is_top parents t ≡ false → member w (parent_at parents t ∷ above parents n (parent_at parents t)) ≡ true → member w (above parents (suc n) t) ≡ true
+past_top parents w n t h e = ap (λ (b : Bool). member w (if b then [] else parent_at parents t ∷ above parents n (parent_at parents t))) h ∙ e
+
+pub met_above : (parents : List ℕ) (n m t : ℕ) → 0 < m → m ≤ n → ((i : ℕ) → i < m → is_top parents (up parents i t) ≡ false) → member (up parents m t) (above parents n t) ≡ true
+met_above parents zero m t some few passed = absurd (omega arith)
+met_above parents (suc n) zero t some few passed = absurd (omega arith)
+met_above parents (suc n) (suc zero) t some few passed =
+    past_top parents (parent_at parents t) n t (passed 0 some) (met_here (parent_at parents t) (parent_at parents t) (above parents n (parent_at parents t)) refl)
+met_above parents (suc n) (suc (suc m)) t some few passed =
+    let top = up parents (suc m) (parent_at parents t) in
+    past_top parents top n t (passed 0 some)
+    (met_further top (parent_at parents t) (above parents n (parent_at parents t))
+    (met_above parents n (suc m) (parent_at parents t) (omega arith) (omega arith) (λ i h. passed (suc i) (omega arith))))
+
+pub above_itself : (parents : List ℕ) (t : ℕ) → IsOnCycle parents t → member t (all_above parents t) ≡ true
+above_itself parents t on =
+    let all = all_above parents t in
+    ap (λ (w : ℕ). member w all) (sym on.back) ∙ met_above parents (length parents) on.steps t on.some on.few on.open_below
+
+-- What is met above a type is so many steps up
+
+pub some_above : (parents : List ℕ) (n t : ℕ) (before : List ℕ) → meets (above parents n t) before ≡ true → Meets parents t before
+some_above parents zero t before e = let no : ⊥ = cc in absurd no
+some_above parents (suc n) t before e = by (is_top parents t) e (some_above parents n (parent_at parents t) before)
+  where
+    here : (b : Bool) → member (parent_at parents t) before ≡ b → (b || meets (above parents n (parent_at parents t)) before) ≡ true → (meets (above parents n (parent_at parents t)) before ≡ true → Meets parents (parent_at parents t) before) → Meets parents t before
+    here true met e rest = record { steps = 1; there = met }
+    here false met e rest = let further = rest e in record { steps = suc further.steps; there = further.there }
+    by : (b : Bool) → meets (if b then [] else parent_at parents t ∷ above parents n (parent_at parents t)) before ≡ true → (meets (above parents n (parent_at parents t)) before ≡ true → Meets parents (parent_at parents t) before) → Meets parents t before
+    by true e rest = let no : ⊥ = cc in absurd no
+    by false e rest = here (member (parent_at parents t) before) refl e rest
+
+pub record IsStepsAbove (parents : List ℕ) (n t w : ℕ) : Type 0 where
   pub steps : ℕ
-  pub within : steps < n
+  pub some : 0 < steps
+  pub few : steps ≤ n
   pub there : up parents steps t ≡ w
+  pub open_below : (i : ℕ) → i < steps → is_top parents (up parents i t) ≡ false
 
-apart_or_met : (parents : List ℕ) (w n t : ℕ) → IsApart w (trail parents n t) ⊎ IsMet parents w n t
-apart_or_met parents w zero t = inl tt
-apart_or_met parents w (suc n) t = by (eqb w t) refl (apart_or_met parents w n (parent_at parents t))
+pub steps_above : (parents : List ℕ) (w n t : ℕ) → member w (above parents n t) ≡ true → IsStepsAbove parents n t w
+steps_above parents w zero t e = let no : ⊥ = cc in absurd no
+steps_above parents w (suc n) t e = by (is_top parents t) refl e (steps_above parents w n (parent_at parents t))
   where
-    by : (b : Bool) → eqb w t ≡ b → IsApart w (trail parents n (parent_at parents t)) ⊎ IsMet parents w n (parent_at parents t) → IsApart w (trail parents (suc n) t) ⊎ IsMet parents w (suc n) t
-    by true e rest = inr (record { steps = 0; within = omega arith; there = sym ((Decides-eqb w t).0 e) })
-    by false e (inl apart) = inl (e, apart)
-    by false e (inr met) = inr (record { steps = suc met.steps; within = omega arith; there = met.there })
+    open_first : is_top parents t ≡ false → (i : ℕ) → i < 1 → is_top parents (up parents i t) ≡ false
+    open_first h zero l = h
+    open_first h (suc i) l = absurd (omega arith)
+    open_more : is_top parents t ≡ false → (further : IsStepsAbove parents n (parent_at parents t) w) (i : ℕ) → i < suc further.steps → is_top parents (up parents i t) ≡ false
+    open_more h further zero l = h
+    open_more h further (suc i) l = further.open_below i (omega arith)
+    here : is_top parents t ≡ false → (b : Bool) → nat_eq w (parent_at parents t) ≡ b → (b || member w (above parents n (parent_at parents t))) ≡ true → (member w (above parents n (parent_at parents t)) ≡ true → IsStepsAbove parents n (parent_at parents t) w) → IsStepsAbove parents (suc n) t w
+    here h true same e rest = record { steps = 1; some = omega arith; few = omega arith; there = sym ((Decides-eqb w (parent_at parents t)).0 same); open_below = open_first h }
+    here h false other e rest =
+        let further = rest e in
+        let few = further.few in
+        record { steps = suc further.steps; some = omega arith; few = omega (arith, few); there = further.there; open_below = open_more h further }
+    by : (b : Bool) → is_top parents t ≡ b → member w (if b then [] else parent_at parents t ∷ above parents n (parent_at parents t)) ≡ true → (member w (above parents n (parent_at parents t)) ≡ true → IsStepsAbove parents n (parent_at parents t) w) → IsStepsAbove parents (suc n) t w
+    by true h e rest = let no : ⊥ = cc in absurd no
+    by false h e rest = here h (nat_eq w (parent_at parents t)) refl e rest
 
-abbrev NeverTop : List ℕ → ℕ → ℕ → Type 0
-NeverTop parents n t = (i : ℕ) → i < n → up parents i t ≡ 0 → ⊥
-
-abbrev pub HasCycle : List ℕ → Type 0
-HasCycle parents = (t : ℕ) × IsOnCycle parents t
-
-distinct_or_cycle : (parents : List ℕ) (n t : ℕ) → n ≤ length parents → NeverTop parents n t → IsDistinct eqb (trail parents n t) ⊎ HasCycle parents
-unfolding IsDistinct
-distinct_or_cycle parents zero t few never = inl tt
-distinct_or_cycle parents (suc n) t few never =
-    by (apart_or_met parents t n (parent_at parents t)) (distinct_or_cycle parents n (parent_at parents t) (omega arith) (λ i h e. never (suc i) (omega arith) e))
-  where
-    by : IsApart t (trail parents n (parent_at parents t)) ⊎ IsMet parents t n (parent_at parents t) → IsDistinct eqb (trail parents n (parent_at parents t)) ⊎ HasCycle parents → IsDistinct eqb (trail parents (suc n) t) ⊎ HasCycle parents
-    by (inl apart) (inl distinct) = inl (apart, distinct)
-    by (inl apart) (inr cycle) = inr cycle
-    by (inr met) rest =
-        inr (t, record { steps = suc met.steps; some = omega arith; few = omega arith; back = met.there; never_top = λ i h e. never i (omega arith) e })
-
--- Type 0 and as many types on the way up as there are types would be too many without a repetition
-
-trail_below : (parents : List ℕ) (most : ℕ) → ((t : ℕ) → parent_at parents t < most) → (n t : ℕ) → t < most → (q : ℕ) → list_any (eqb q) (trail parents n t) ≡ true → q < most
-trail_below parents most inside zero t h q e = let no : ⊥ = cc in absurd no
-trail_below parents most inside (suc n) t h q e = by (eqb q t) refl (trail_below parents most inside n (parent_at parents t) (inside t) q) e
-  where
-    by : (b : Bool) → eqb q t ≡ b → (list_any (eqb q) (trail parents n (parent_at parents t)) ≡ true → q < most) → (b || list_any (eqb q) (trail parents n (parent_at parents t))) ≡ true → q < most
-    by true same rest e = let is = (Decides-eqb q t).0 same in omega (arith, is, h)
-    by false other rest e = rest e
-
-too_many : (parents : List ℕ) (t : ℕ) → ((s : ℕ) → parent_at parents s < length parents) → t < length parents → IsApart 0 (trail parents (length parents) t) → IsDistinct eqb (trail parents (length parents) t) → ⊥
-unfolding IsDistinct
-too_many parents t inside h apart distinct =
-    let n = length parents in
-    let all = trail parents n t in
-    let count = length-le_from_distinct_below (0 ∷ all) n (apart, distinct) below in
-    let same = length_trail parents n t in
-    omega (arith, count, same)
-  where
-    below : (q : ℕ) → list_any (eqb q) (0 ∷ trail parents (length parents) t) ≡ true → q < length parents
-    below q e = by (eqb q 0) refl e
-      where
-        by : (b : Bool) → eqb q 0 ≡ b → (b || list_any (eqb q) (trail parents (length parents) t)) ≡ true → q < length parents
-        by true same e = let is = (Decides-eqb q 0).0 same in omega (arith, is, h)
-        by false other e = trail_below parents (length parents) inside (length parents) t h q e
-
-cycle_below : (parents : List ℕ) (t : ℕ) → ((s : ℕ) → parent_at parents s < length parents) → t < length parents → NeverTop parents (length parents) t → HasCycle parents
-cycle_below parents t inside h never = by (apart_or_met parents 0 (length parents) t) (distinct_or_cycle parents (length parents) t (omega arith) never)
-  where
-    by : IsApart 0 (trail parents (length parents) t) ⊎ IsMet parents 0 (length parents) t → IsDistinct eqb (trail parents (length parents) t) ⊎ HasCycle parents → HasCycle parents
-    by (inr met) rest = absurd (never met.steps met.within met.there)
-    by (inl apart) (inr cycle) = cycle
-    by (inl apart) (inl distinct) = absurd (too_many parents t inside h apart distinct)
-
--- Ancestors
-
-differs : (n m : ℕ) → nat_eq n m ≡ false → n ≡ m → ⊥
-differs n m e h = let same = (Decides-eqb n m).1 h in let no : ⊥ = cc in no
-
-turned : (n m : ℕ) → nat_eq n m ≡ false → nat_eq m n ≡ false
-turned n m e = grind (arith, nat_tests)
-
-never_top : (parents : List ℕ) (n t : ℕ) → member 0 (ancestors parents n t) ≡ false → NeverTop parents n t
-never_top parents zero t e = λ i h z. absurd (omega arith)
-never_top parents (suc n) t e = by (nat_eq 0 t) refl e (never_top parents n (parent_at parents t))
-  where
-    by : (b : Bool) → nat_eq 0 t ≡ b → (b || member 0 (if nat_eq t 0 then [] else ancestors parents n (parent_at parents t))) ≡ false
-        → (member 0 (ancestors parents n (parent_at parents t)) ≡ false → NeverTop parents n (parent_at parents t)) → NeverTop parents (suc n) t
-    by true top e rest i h z = let no : ⊥ = cc in absurd no
-    by false other e rest zero h z = differs 0 t other (sym z)
-    by false other e rest (suc i) h z =
-        let kept = ap (λ (b : Bool). member 0 (if b then [] else ancestors parents n (parent_at parents t))) (turned 0 t other) in
-        rest (sym kept ∙ e) i (omega arith) z
-
--- a type descends from type 0, or there is a cycle
-pub top_or_cycle : (parents : List ℕ) → ((s : ℕ) → parent_at parents s < length parents) → (t : ℕ) → t < length parents → (member 0 (ancestors parents (length parents) t) ≡ true) ⊎ HasCycle parents
-top_or_cycle parents inside t h = by (member 0 (ancestors parents (length parents) t)) refl
-  where
-    by : (b : Bool) → member 0 (ancestors parents (length parents) t) ≡ b → (member 0 (ancestors parents (length parents) t) ≡ true) ⊎ HasCycle parents
-    by true e = inl e
-    by false e = inr (cycle_below parents t inside h (never_top parents (length parents) t e))
+pub on_cycle : (parents : List ℕ) (t : ℕ) → member t (all_above parents t) ≡ true → IsOnCycle parents t
+on_cycle parents t e =
+    let way = steps_above parents t (length parents) t e in
+    record { steps = way.steps; some = way.some; few = way.few; back = way.there; open_below = way.open_below }

@@ -15,8 +15,10 @@ pub mod NoCycles
 pub mod ObjectLists
 pub mod Order
 pub mod Paired
+pub mod Repetition
 pub mod Resolving
 pub mod Scoped
+pub mod Settled
 pub mod TaskReadings
 pub mod There
 pub mod ThereConditions

@@ -10,66 +10,14 @@ use Rattle.mf_model.specs.declared.form.Typed.{Typed}
 use Rattle.mf_model.specs.declared.form.Word.{Word}
 use Rattle.mf_model.specs.Objects.{meets, member}
 use Rattle.mf_model.specs.Resolution.{number_of}
-use Rattle.mf_types.specs.Cycles.{is_top, above, all_above, begins_cycle, number_or_zero, type_number, with_type, cycle_at, cycles_from, cycle_faults}
+use Rattle.mf_types.specs.Ascent.{parent_at, up, IsOnCycle}
+use Rattle.mf_types.specs.Cycles.{all_above, begins_cycle, number_or_zero, type_number, with_type, cycle_at, cycles_from, cycle_faults}
 use Rattle.mf_types.specs.Names.{Declared, kept_types, numbers_by, numbers_of, types_of, head_or_zero, parent_in}
-use Rattle.mf_types.proofs.Ascent.{parent_at, up, up_last, IsOnCycle, parent_on_cycle, above_on_cycle}
+use Rattle.mf_types.proofs.Ascent.{up_last, above_on_cycle, above_itself, some_above}
 use Rattle.mf_types.proofs.Firsts.{any-push, same_text}
 use Rattle.mf_types.proofs.Narrow.{every}
+use Rattle.mf_types.proofs.Repetition.{HasCycle}
 use Rattle.mf_types.proofs.There.{first_empty, second_empty, not_met}
-use Rattle.mf_types.proofs.Walked.{met_here}
-
--- A type on a cycle is met above itself
-
-not_top : (parents : List ℕ) (t : ℕ) → (t ≡ 0 → ⊥) → is_top parents t ≡ false
-not_top parents t h = by (nat_eq t 0) refl
-  where
-    by : (b : Bool) → nat_eq t 0 ≡ b → (b && nat_eq (slice_index_or parents 0 0) 0) ≡ false
-    by true e = absurd (h ((Decides-eqb t 0).0 e))
-    by false e = refl
-
-met_further : (w t : ℕ) (ts : List ℕ) → member w ts ≡ true → member w (t ∷ ts) ≡ true
-met_further w t ts e = by (nat_eq w t)
-  where
-    by : (b : Bool) → (b || member w ts) ≡ true
-    by true = refl
-    by false = e
-
-past_top : (parents : List ℕ) (w n t : ℕ) → (t ≡ 0 → ⊥) → member w (parent_at parents t ∷ above parents n (parent_at parents t)) ≡ true → member w (above parents (suc n) t) ≡ true
-past_top parents w n t h e = ap (λ (b : Bool). member w (if b then [] else parent_at parents t ∷ above parents n (parent_at parents t))) (not_top parents t h) ∙ e
-
-met_above : (parents : List ℕ) (n m t : ℕ) → 0 < m → m ≤ n → ((i : ℕ) → i < m → up parents i t ≡ 0 → ⊥) → member (up parents m t) (above parents n t) ≡ true
-met_above parents zero m t some few never = absurd (omega arith)
-met_above parents (suc n) zero t some few never = absurd (omega arith)
-met_above parents (suc n) (suc zero) t some few never =
-    past_top parents (parent_at parents t) n t (never 0 some) (met_here (parent_at parents t) (parent_at parents t) (above parents n (parent_at parents t)) refl)
-met_above parents (suc n) (suc (suc m)) t some few never =
-    let top = up parents (suc m) (parent_at parents t) in
-    past_top parents top n t (never 0 some)
-    (met_further top (parent_at parents t) (above parents n (parent_at parents t))
-    (met_above parents n (suc m) (parent_at parents t) (omega arith) (omega arith) (λ i h z. never (suc i) (omega arith) z)))
-
-above_itself : (parents : List ℕ) (t : ℕ) → IsOnCycle parents t → member t (all_above parents t) ≡ true
-above_itself parents t on =
-    let all = all_above parents t in
-    ap (λ (w : ℕ). member w all) (sym on.back) ∙ met_above parents (length parents) on.steps t on.some on.few on.never_top
-
--- What is met above a type is so many steps up
-
-pub record IsAbove (parents : List ℕ) (t : ℕ) (before : List ℕ) : Type 0 where
-  pub steps : ℕ
-  pub there : member (up parents steps t) before ≡ true
-
-some_above : (parents : List ℕ) (n t : ℕ) (before : List ℕ) → meets (above parents n t) before ≡ true → IsAbove parents t before
-some_above parents zero t before e = let no : ⊥ = cc in absurd no
-some_above parents (suc n) t before e = by (is_top parents t) e (some_above parents n (parent_at parents t) before)
-  where
-    here : (b : Bool) → member (parent_at parents t) before ≡ b → (b || meets (above parents n (parent_at parents t)) before) ≡ true → (meets (above parents n (parent_at parents t)) before ≡ true → IsAbove parents (parent_at parents t) before) → IsAbove parents t before
-    here true met e rest = record { steps = 1; there = met }
-    here false met e rest = let further = rest e in record { steps = suc further.steps; there = further.there }
-
-    by : (b : Bool) → meets (if b then [] else parent_at parents t ∷ above parents n (parent_at parents t)) before ≡ true → (meets (above parents n (parent_at parents t)) before ≡ true → IsAbove parents (parent_at parents t) before) → IsAbove parents t before
-    by true e rest = let no : ⊥ = cc in absurd no
-    by false e rest = here (member (parent_at parents t) before) refl e rest
 
 -- No item begins a cycle
 
@@ -171,15 +119,13 @@ last_parent names parents named u on = by on.steps on.some on.back
     by zero some back = absurd (omega arith)
     by (suc n) some back = subst (IsNamed names) (sym (up_last parents n u) ∙ back) (named (up parents n u))
 
-pub no_cycle : (declared : Declared) (items : List Typed) → declared.parents ≡ parents_by declared.types (kept_types items) → cycle_faults declared items ≡ [] → (u : ℕ) → IsOnCycle declared.parents u → ⊥
-no_cycle declared items is e u on =
-    by (last_parent declared.types declared.parents (λ t. subst (λ (parents : List ℕ). IsNamed declared.types (parent_at parents t)) (sym is) (named_at declared.types (kept_types items) t)) u on)
+pub no_cycle : (declared : Declared) (items : List Typed) → declared.parents ≡ parents_by declared.types (kept_types items) → cycle_faults declared items ≡ [] → HasCycle declared.parents → ⊥
+no_cycle declared items is e cycle =
+    by (last_parent declared.types declared.parents (λ t. subst (λ (parents : List ℕ). IsNamed declared.types (parent_at parents t)) (sym is) (named_at declared.types (kept_types items) t)) cycle.type cycle.on)
   where
-    by : IsNamed declared.types u → ⊥
-    by (inl z) = on.never_top 0 on.some z
+    by : IsNamed declared.types cycle.type → ⊥
+    by (inl z) = cycle.other z
     by (inr named) =
         let name = named.0 in
-        let numbered = named.1 in
-        let parent = ap (λ (parents : List ℕ). parent_at parents u) is ∙ parent_is declared.types (kept_types items) name u numbered in
-        let next = parent_on_cycle declared.parents u on in
-        items_off_cycles declared [] (kept_types items) e (λ b m own. let no : ⊥ = cc in no) name u numbered (λ z. next.never_top 0 next.some (parent ∙ z)) on
+        let parent = ap (λ (parents : List ℕ). parent_at parents cycle.type) is ∙ parent_is declared.types (kept_types items) name cycle.type named.1 in
+        items_off_cycles declared [] (kept_types items) e (λ b m own. let no : ⊥ = cc in no) name cycle.type named.1 (λ z. cycle.other_parent (parent ∙ z)) cycle.on

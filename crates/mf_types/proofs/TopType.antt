@@ -15,6 +15,7 @@ use Rattle.mf_model.specs.Objects as objects
 use Rattle.mf_model.specs.Objects.{ancestors, kinds_of, meets, member}
 use Rattle.mf_model.specs.Resolution.{number_of}
 use Rattle.mf_model.specs.declared.form.FileKind.TheVariants.{DomainFile}
+use Rattle.mf_types.specs.Ascent.{parent_at}
 use Rattle.mf_types.specs.AllFaults.{faults_of}
 use Rattle.mf_types.specs.Arguments.{unknown}
 use Rattle.mf_types.specs.Declarations.{beyond, item_words, most_symbols, object_list_faults, repeats}
@@ -24,9 +25,9 @@ use Rattle.mf_types.specs.Quantified.{item_faults, type_word_faults}
 use Rattle.mf_types.specs.Sites.{Site}
 use Rattle.mf_types.specs.Tasks.{paired, type_named, object_named, IsTaskOf}
 use Rattle.mf_types.specs.Uses.{in_domain, in_problem}
-use Rattle.mf_types.proofs.Ascent.{parent_at, HasCycle, top_or_cycle}
 use Rattle.mf_types.proofs.Narrow.{AreBelow, types_below, are_numbers}
 use Rattle.mf_types.proofs.NoCycles.{no_cycle}
+use Rattle.mf_types.proofs.Repetition.{HasCycle, top_or_cycle}
 use Rattle.mf_types.proofs.There.{first_empty, second_empty, never}
 use Rattle.mf_types.proofs.ValidTask.{paired_all, paired_length, firsts_all}
 
@@ -141,7 +142,7 @@ objects_have_top d p task e is =
     let items = firsts item_text [] (d.constants ++ p.objects) in
     let typed : All (HasType (length names)) declared.object_types = All-map (HasType (length names)) (item_types names) items (objects_typed declared some d.constants p.objects parts.1) in
     let has : HasKinds parents (length parents) (paired object_named declared.objects declared.object_types) =
-    paired_all (HasType (length parents)) (IsObject parents (length parents)) object_named (λ a ts. meets_top parents below (λ cycle. none cycle.0 cycle.1) ts) declared.objects declared.object_types (subst (λ (n : ℕ). All (HasType n) declared.object_types) count typed) in
+    paired_all (HasType (length parents)) (IsObject parents (length parents)) object_named (λ a ts. meets_top parents below none ts) declared.objects declared.object_types (subst (λ (n : ℕ). All (HasType n) declared.object_types) count typed) in
     let types_are : objects.parents_of task ≡ parents = ap (λ ts. map (λ t. t.parent) ts) is.types ∙ paired_parents names parents count in
     let length_is : length task.types ≡ length parents = ap length is.types ∙ paired_length type_named names parents count ∙ count in
     All-map (λ kinds. IsTrue (meets (0 ∷ []) kinds)) _ task.objects

@@ -1,5 +1,6 @@
 pub mod AllFaults
 pub mod Arguments
+pub mod Ascent
 pub mod Conditions
 pub mod Cycles
 pub mod DeclarationFaults

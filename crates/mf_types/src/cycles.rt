@@ -1,5 +1,6 @@
-ghost use Rattle.std.specs.Prelude.{◌≡◌, [], ◌∷◌, ◌&&◌, IfOk, OnOk};
-ghost use Rattle.mf_model.specs.Objects.{meets, member};
+ghost use Rattle.std.specs.Prelude.{◌≡◌, ℕ, List, [], ◌∷◌, ◌||◌, IfOk, OnOk};
+ghost use Rattle.mf_model.specs.Objects.{member};
+ghost use Rattle.mf_types.specs.Ascent.{Settles, SettlesMore, IsClimb};
 ghost use Rattle.mf_types.specs.Cycles as spec;
 ghost use Rattle.mf_types.specs.Faults.{after};
 ghost use Rattle.mf_types.specs.Names as names;
@@ -13,8 +14,14 @@ use indexmap::IndexSet;
 use mf_model::{FileKind, Typed};
 use std::alloc::{AllocError, Global};
 
+/// The way up from a type: how many steps were gone, and whether they led back to it.
+#[derive(Clone, Copy, Debug)]
+pub(crate) struct Climb {
+    steps: usize,
+    returned: bool,
+}
+
 /// The faults of types that descend from themselves: one for each cycle, at its first item.
-#[tactic(auto, using(crate::proofs::After::after_append))]
 pub(crate) fn cycles(
     alloc: Global,
     mut best: Option<Fault>,
@@ -24,33 +31,33 @@ pub(crate) fn cycles(
     ensures { IfOk result
         (λ fault. fault ≡ after best (spec.cycle_faults (declared_of tables.now) items.now)) }
 {
-    let mut before = IndexSet::new(alloc);
+    let mut settled = IndexSet::new(alloc);
     for item in items {
-        best = cycle_step(best, tables, &mut before, item)?;
+        best = cycle_step(best, tables, &mut settled, item)?;
     }
     Ok(best)
 }
 
+// The fault of the cycle that an item begins. Its type, and those above it, are settled afterwards: they begin no cycle.
 fn cycle_step(
     best: Option<Fault>,
     tables: &Tables,
-    before: &mut IndexSet<usize>,
+    settled: &mut IndexSet<usize>,
     item: &Typed,
 ) -> Result<Option<Fault>, AllocError>
-    ensures faults { IfOk result
-        (λ fault. fault ≡ after best (spec.cycles_from (declared_of tables.now) before.old.keys
-        (names.kept_types (item.now ∷ [])))) }
-    ensures before { OnOk result
-        (before.new.keys ≡ spec.types_before (declared_of tables.now) before.old.keys
-        (names.kept_types (item.now ∷ []))) }
+    ensures faults { IfOk result (λ fault. (before : List ℕ) → Settles tables.now.parents before settled.old.keys
+        → fault ≡ after best (spec.cycles_from (declared_of tables.now) before (names.kept_types (item.now ∷ [])))) }
+    ensures settled { OnOk result ((before : List ℕ) → Settles tables.now.parents before settled.old.keys
+        → Settles tables.now.parents (spec.types_before (declared_of tables.now) before (names.kept_types (item.now ∷ []))) settled.new.keys) }
 {
     if says_nothing(item) {
         return Ok(best);
     }
+    let parents = tables.parents.as_slice();
     let number = type_number(tables, item);
-    let begins = begins_cycle(tables.parents.as_slice(), before, number);
-    before.insert(number)?;
-    if begins {
+    let way = go_up(parents, settled, number);
+    settle(parents, settled, number, way.steps)?;
+    if way.returned {
         return Ok(at_word(best, FaultKind::TypeCycle, FileKind::DomainFile, &item.word));
     }
     Ok(best)
@@ -65,45 +72,37 @@ fn type_number(tables: &Tables, item: &Typed) -> usize
     }
 }
 
-// Whether a type descends from itself, and none of the types before is of the same cycle.
-fn begins_cycle(parents: &[usize], before: &IndexSet<usize>, number: usize) -> bool
-    ensures { result ≡ spec.begins_cycle parents.now before.now.keys number }
-{
-    is_above(parents, number, number) && !is_one_above(parents, number, before)
-}
-
-// Whether the wanted type is met on the way up.
-fn is_above(parents: &[usize], from: usize, wanted: usize) -> bool
-    ensures { result ≡ member wanted (spec.all_above parents.now from) }
+// Goes up from a type to the top, to a settled type or back to it.
+fn go_up(parents: &[usize], settled: &IndexSet<usize>, from: usize) -> Climb
+    ensures { (before : List ℕ) → Settles parents.now before settled.now.keys → IsClimb parents.now before from result }
 {
     let mut current = from;
-    for _step in 0..parents.len() {
-        if is_top(parents, current) {
-            return false;
+    for steps in 0..parents.len() {
+        if is_end(parents, settled, current) {
+            return Climb {
+                steps,
+                returned: false,
+            };
         }
         current = parent_of(parents, current);
-        if current == wanted {
-            return true;
+        if current == from {
+            return Climb {
+                steps: steps + 1,
+                returned: true,
+            };
         }
     }
-    false
+    Climb {
+        steps: 0,
+        returned: false,
+    }
 }
 
-// Whether one of the types is met on the way up.
-fn is_one_above(parents: &[usize], from: usize, types: &IndexSet<usize>) -> bool
-    ensures { result ≡ meets (spec.all_above parents.now from) types.now.keys }
+// Whether no cycle begins at a type or above it.
+fn is_end(parents: &[usize], settled: &IndexSet<usize>, number: usize) -> bool
+    ensures { result ≡ (spec.is_top parents.now number || member number settled.now.keys) }
 {
-    let mut current = from;
-    for _step in 0..parents.len() {
-        if is_top(parents, current) {
-            return false;
-        }
-        current = parent_of(parents, current);
-        if contains(types, current) {
-            return true;
-        }
-    }
-    false
+    is_top(parents, number) || contains(settled, number)
 }
 
 fn contains(types: &IndexSet<usize>, number: usize) -> bool
@@ -116,4 +115,29 @@ fn is_top(parents: &[usize], number: usize) -> bool
     ensures { result ≡ spec.is_top parents.now number }
 {
     number == 0 && parent_of(parents, 0) == 0
+}
+
+// Settles a type and so many above it.
+fn settle(
+    parents: &[usize],
+    settled: &mut IndexSet<usize>,
+    from: usize,
+    steps: usize,
+) -> Result<(), AllocError>
+    ensures { OnOk result (SettlesMore parents.now from steps settled.old.keys settled.new.keys) }
+{
+    let mut current = from;
+    add(settled, current)?;
+    for _step in 0..steps {
+        current = parent_of(parents, current);
+        add(settled, current)?;
+    }
+    Ok(())
+}
+
+fn add(settled: &mut IndexSet<usize>, number: usize) -> Result<(), AllocError>
+    ensures { OnOk result (settled.new.keys ≡ spec.with_type settled.old.keys number) }
+{
+    settled.insert(number)?;
+    Ok(())
 }
