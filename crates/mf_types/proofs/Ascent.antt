@@ -5,7 +5,6 @@ use Rattle.std.proofs.lemmas.Bool.Decides.{Decides-eqb}
 use Rattle.mf_model.specs.Objects.{meets, member}
 use Rattle.mf_types.specs.Ascent.{parent_at, up, IsOnCycle, Meets}
 use Rattle.mf_types.specs.Cycles.{is_top, above, all_above}
-use Rattle.mf_types.proofs.Walked.{met_here}
 
 pub up_last : (parents : List ℕ) (n t : ℕ) → up parents (suc n) t ≡ parent_at parents (up parents n t)
 up_last parents zero t = refl
@@ -49,10 +48,14 @@ in_round parents t steps some back (suc n) = by (in_round parents t steps some b
         let within = round.within in
         let last : steps ≡ suc round.place = omega (arith, within, l) in
         record { place = 0; within = some; there = sym back ∙ (ap (λ (m : ℕ). up parents m t) last ∙ (up_last parents round.place t ∙ (ap (parent_at parents) round.there ∙ sym (up_last parents n t)))) }
+
     by : IsInRound parents t steps (up parents n t) → IsInRound parents t steps (up parents (suc n) t)
     by round = next round (cases_lt (suc round.place) steps)
 
 -- A type so many steps up is met above
+
+met_here : (w : ℕ) (ts : List ℕ) → member w (w ∷ ts) ≡ true
+met_here w ts = ap (λ (b : Bool). b || member w ts) ((Decides-eqb w w).1 refl)
 
 met_further : (w t : ℕ) (ts : List ℕ) → member w ts ≡ true → member w (t ∷ ts) ≡ true
 met_further w t ts e = by (nat_eq w t)
@@ -68,7 +71,7 @@ pub met_above : (parents : List ℕ) (n m t : ℕ) → 0 < m → m ≤ n → ((i
 met_above parents zero m t some few passed = absurd (omega arith)
 met_above parents (suc n) zero t some few passed = absurd (omega arith)
 met_above parents (suc n) (suc zero) t some few passed =
-    past_top parents (parent_at parents t) n t (passed 0 some) (met_here (parent_at parents t) (parent_at parents t) (above parents n (parent_at parents t)) refl)
+    past_top parents (parent_at parents t) n t (passed 0 some) (met_here (parent_at parents t) (above parents n (parent_at parents t)))
 met_above parents (suc n) (suc (suc m)) t some few passed =
     let top = up parents (suc m) (parent_at parents t) in
     past_top parents top n t (passed 0 some)
@@ -89,6 +92,7 @@ some_above parents (suc n) t before e = by (is_top parents t) e (some_above pare
     here : (b : Bool) → member (parent_at parents t) before ≡ b → (b || meets (above parents n (parent_at parents t)) before) ≡ true → (meets (above parents n (parent_at parents t)) before ≡ true → Meets parents (parent_at parents t) before) → Meets parents t before
     here true met e rest = record { steps = 1; there = met }
     here false met e rest = let further = rest e in record { steps = suc further.steps; there = further.there }
+
     by : (b : Bool) → meets (if b then [] else parent_at parents t ∷ above parents n (parent_at parents t)) before ≡ true → (meets (above parents n (parent_at parents t)) before ≡ true → Meets parents (parent_at parents t) before) → Meets parents t before
     by true e rest = let no : ⊥ = cc in absurd no
     by false e rest = here (member (parent_at parents t) before) refl e rest
@@ -107,15 +111,18 @@ steps_above parents w (suc n) t e = by (is_top parents t) refl e (steps_above pa
     open_first : is_top parents t ≡ false → (i : ℕ) → i < 1 → is_top parents (up parents i t) ≡ false
     open_first h zero l = h
     open_first h (suc i) l = absurd (omega arith)
+
     open_more : is_top parents t ≡ false → (further : IsStepsAbove parents n (parent_at parents t) w) (i : ℕ) → i < suc further.steps → is_top parents (up parents i t) ≡ false
     open_more h further zero l = h
     open_more h further (suc i) l = further.open_below i (omega arith)
+
     here : is_top parents t ≡ false → (b : Bool) → nat_eq w (parent_at parents t) ≡ b → (b || member w (above parents n (parent_at parents t))) ≡ true → (member w (above parents n (parent_at parents t)) ≡ true → IsStepsAbove parents n (parent_at parents t) w) → IsStepsAbove parents (suc n) t w
     here h true same e rest = record { steps = 1; some = omega arith; few = omega arith; there = sym ((Decides-eqb w (parent_at parents t)).0 same); open_below = open_first h }
     here h false other e rest =
         let further = rest e in
         let few = further.few in
         record { steps = suc further.steps; some = omega arith; few = omega (arith, few); there = further.there; open_below = open_more h further }
+
     by : (b : Bool) → is_top parents t ≡ b → member w (if b then [] else parent_at parents t ∷ above parents n (parent_at parents t)) ≡ true → (member w (above parents n (parent_at parents t)) ≡ true → IsStepsAbove parents n (parent_at parents t) w) → IsStepsAbove parents (suc n) t w
     by true h e rest = let no : ⊥ = cc in absurd no
     by false h e rest = here h (nat_eq w (parent_at parents t)) refl e rest

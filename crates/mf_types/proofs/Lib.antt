@@ -33,5 +33,4 @@ pub mod ValidEffects
 pub mod ValidExpressions
 pub mod ValidTask
 pub mod ValidTerms
-pub mod Walked
 pub mod Walks

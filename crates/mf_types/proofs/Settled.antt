@@ -6,7 +6,7 @@ use Rattle.mf_model.specs.declared.form.Typed.{Typed}
 use Rattle.mf_model.specs.Objects.{meets, member}
 use Rattle.mf_types.specs.declared.cycles.Climb.{Climb}
 use Rattle.mf_types.specs.declared.least.Fault.{Fault}
-use Rattle.mf_types.specs.Ascent.{parent_at, up, IsOnCycle, Meets, BeginsNone, Settles, IsClimb, SettlesMore}
+use Rattle.mf_types.specs.Ascent.{parent_at, up, IsOnCycle, BeginsNone, Settles, IsClimb, SettlesMore}
 use Rattle.mf_types.specs.Cycles.{is_top, all_above, begins_cycle, type_number, with_type, cycle_at, cycles_from, types_before, cycle_faults}
 use Rattle.mf_types.specs.Faults.{after}
 use Rattle.mf_types.specs.Names.{Declared, kept_types, says_nothing}
@@ -36,6 +36,7 @@ member_cases types s w = by (member s types)
     last : (b : Bool) → member w types ≡ b → (b || nat_eq w s) ≡ true → (member w types ≡ true) ⊎ (w ≡ s)
     last true e h = inl e
     last false e h = inr ((Decides-eqb w s).0 h)
+
     by : (b : Bool) → member w (if b then types else types ++ s ∷ []) ≡ true → (member w types ≡ true) ⊎ (w ≡ s)
     by true h = inl h
     by false h = last (member w types) refl (sym (any-push (nat_eq w) types s) ∙ h)
@@ -66,6 +67,7 @@ shared_meets w (x ∷ xs) ys e h = by (nat_eq w x) refl e (λ f. shared_meets w 
     further : (b : Bool) → meets xs ys ≡ true → (b || meets xs ys) ≡ true
     further true f = refl
     further false f = f
+
     by : (b : Bool) → nat_eq w x ≡ b → (b || member w xs) ≡ true → (member w xs ≡ true → meets xs ys ≡ true) → (member x ys || meets xs ys) ≡ true
     by true same f rest = ap (λ (b : Bool). b || meets xs ys) (ap (λ (u : ℕ). member u ys) (sym ((Decides-eqb w x).0 same)) ∙ h)
     by false other f rest = further (member x ys) (rest f)
@@ -225,6 +227,7 @@ settling_goes_on parents old between new t n current next settled e made = subst
     at =
         let more : n + 1 ≡ suc n = omega arith in
         e ∙ (ap (parent_at parents) settled.at ∙ (sym (up_last parents n t) ∙ ap (λ (m : ℕ). up parents m t) (sym more)))
+
     by : (before : List ℕ) → ((s : ℕ) → member s old ≡ true → BeginsNone parents before s) → BeginsNone parents before next → (s : ℕ) → (member s between ≡ true) ⊎ (s ≡ next) → BeginsNone parents before s
     by before h k s (inr same) = subst (BeginsNone parents before) (sym same) k
     by before h k s (inl m) =
@@ -281,8 +284,8 @@ item_passed declared items rest item first best next old new way fault settled =
       before = types_before declared way.before (kept_types (item ∷ []));
       settles = settled way.before way.settles;
       left =
-        ap (λ (f : Option Fault). after f behind) (fault way.before way.settles)
-        ∙ (after_append best here behind ∙ (ap (after best) (sym (items_more declared way.before item rest)) ∙ way.left));
+          ap (λ (f : Option Fault). after f behind) (fault way.before way.settles)
+          ∙ (after_append best here behind ∙ (ap (after best) (sym (items_more declared way.before item rest)) ∙ way.left));
     }
 
 pub way_goes_on : (declared : Declared) (items : List Typed) (i : ℕ) (item : Typed) (first best next : Option Fault) (old new : List ℕ) → i < length items → item ≡ get_or items i item

@@ -1,5 +1,5 @@
 -- Going up from a type to its parent, the parent's parent and so on, and what is known of the types that were passed.
-use Rattle.std.specs.Prelude.{◌≡◌, ℕ, zero, suc, ◌<◌, ◌≤◌, Bool, true, false, List, length, slice_index_or}
+use Rattle.std.specs.Prelude.{◌≡◌, ℕ, zero, suc, ◌<◌, ◌≤◌, true, false, List, length, slice_index_or}
 use Rattle.mf_model.specs.Objects.{member}
 use Rattle.mf_types.specs.declared.cycles.Climb.{Climb}
 use Rattle.mf_types.specs.Cycles.{is_top, begins_cycle, with_type}
