@@ -1,5 +1,4 @@
 pub mod FileLemmas
-pub mod GrammarRows
 pub mod NameLemmas
 pub mod OneTask
 pub mod RoomConditions

@@ -8,9 +8,9 @@ use Rattle.mf_model.specs.declared.form.RawCond.TheFolds.{ind-RawCond, fold-roll
 use Rattle.mf_model.specs.Forms.{Each}
 use Rattle.mf_model.specs.Plain.{all_true}
 use Rattle.mf_reader.specs.GrammarConditions.{IsGrouped, IsCond}
+use Rattle.mf_reader.proofs.CondSound.{CondRow, cond_row_of}
 use Rattle.mf_types.specs.Written.{is_written_expr, cond_step, is_written_cond}
 use Rattle.mf_types.proofs.Given.{and_true}
-use Rattle.mf_input.proofs.GrammarRows.{CondRow, cond_row}
 use Rattle.mf_input.proofs.WrittenParts.{parts_written}
 use Rattle.mf_input.proofs.WrittenExpressions.{expr_written}
 
@@ -49,4 +49,4 @@ level (RawCond-F.Any variables part span) t h = part.1 h.right h.is_right
 
 pub cond_written : (e : RawCond) (t : Tree) → IsCond e t → is_written_cond e ≡ true
 unfolding Layer
-cond_written = ind-RawCond Claim (λ y z is t h. fold-roll-RawCond Bool cond_step y ∙ subst (λ v. Layer v) is (level z) t (cond_row y t h))
+cond_written = ind-RawCond Claim (λ y z is t h. fold-roll-RawCond Bool cond_step y ∙ subst (λ v. Layer v) is (level z) t (cond_row_of y t h))

@@ -3,13 +3,13 @@ mod AtomReadings
 mod Branches
 mod Choices
 mod CondReadings
-mod CondSound
+pub mod CondSound
 mod DeclReadings
 pub mod DomainReadings
 mod EffectReadings
-mod EffectSound
+pub mod EffectSound
 mod ExprReadings
-mod ExprRows
+pub mod ExprRows
 mod ExprSound
 mod FileLaws
 mod FileOrder
