@@ -1,10 +1,10 @@
 -- What the outcome of a step says of whether it is applicable.
-use Rattle.std.proofs.Common.{◌≡◌, refl, sym, ◌∙◌, Bool, true, false, ◌&&◌, not, if◌then◌else◌, Result, Ok, Err, IsTrue}
+use Rattle.std.proofs.Common.{◌≡◌, refl, Bool, true, false, ◌&&◌, not, if◌then◌else◌, Result, Ok, Err, IsTrue}
 use Rattle.std.specs.List.{list_all}
 use Rattle.mf_model.specs.declared.state.Instance.{Instance}
 use Rattle.mf_model.specs.declared.state.PlainState.{PlainState}
 use Rattle.mf_model.specs.declared.task.TypedTask.{TypedTask}
-use Rattle.mf_model.specs.Application.{is_applicable, is_apart, is_defined, next_state, changes_of, changed_state, precondition_holds}
+use Rattle.mf_model.specs.Application.{is_applicable, is_apart, is_defined, next_state, changes_of, precondition_holds}
 use Rattle.mf_model.specs.States.{look_of}
 use Rattle.mf_eval.specs.declared.fault.ApplyFault.{ApplyFault}
 use Rattle.mf_eval.specs.declared.fault.ApplyFault.TheVariants as refusal

@@ -1,5 +1,5 @@
 -- An instance of a task has an object for each parameter of its action.
-use Rattle.std.proofs.Common.{◌≡◌, refl, sym, ◌∙◌, ap, subst, ℕ, ◌+◌, ◌≤◌, List, [], ◌∷◌, ◌++◌, map, length, Option, Some, arith, slice_get, append_assoc, length-append}
+use Rattle.std.proofs.Common.{◌≡◌, refl, ◌∙◌, ap, subst, ℕ, ◌+◌, ◌≤◌, List, [], ◌∷◌, ◌++◌, map, length, Some, arith, slice_get, append_assoc, length-append}
 use Rattle.std.specs.List.{All, flat_map, Contains}
 use Rattle.std.proofs.lemmas.List.Elements.{All-nil, All-cons, All-append, All-contains, All-head, All-tail, All-map, All-weaker}
 use Rattle.mf_model.specs.declared.state.Instance.{Instance}

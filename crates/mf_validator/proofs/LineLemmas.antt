@@ -1,5 +1,5 @@
 -- The lines of a text, found from its front.
-use Rattle.std.proofs.Common.{◌≡◌, refl, sym, ◌∙◌, ap, ap₂, ℕ, suc, zero, ◌+◌, ◌<◌, ◌≤◌, ◌-◌, Bool, true, false, not, cond, ltb, ltb-false, if◌then◌else◌, List, [], ◌∷◌, length, get_or, take, drop, Option, None, Some, arith}
+use Rattle.std.proofs.Common.{◌≡◌, refl, sym, ◌∙◌, ap, ℕ, suc, zero, ◌+◌, ◌<◌, ◌≤◌, ◌-◌, Bool, true, false, not, cond, ltb, ltb-false, if◌then◌else◌, List, [], ◌∷◌, length, get_or, take, drop, None, Some, arith}
 use Rattle.std.specs.List.{position, position_or_len}
 use Rattle.std.proofs.lemmas.List.{take_rest}
 use Rattle.std.proofs.lemmas.List.Quantifiers.{position-Some}

@@ -1,5 +1,5 @@
 -- The pieces of a text, found from its front.
-use Rattle.std.proofs.Common.{◌≡◌, refl, sym, ◌∙◌, ap, ap₂, subst, ℕ, suc, ◌+◌, ◌<◌, ◌≤◌, Bool, true, false, not, cond, eqb, ltb, ltb-false, if◌then◌else◌, ◌||◌, ◌==◌, List, [], ◌∷◌, ◌++◌, length, take, drop, get_or, ◌-◌, ◌≢◌, ne_eqb, unwrap_or, Option, Some, None, append_assoc, length-drop, arith}
+use Rattle.std.proofs.Common.{◌≡◌, refl, sym, ◌∙◌, ap, ap₂, subst, ℕ, suc, ◌+◌, ◌<◌, ◌≤◌, Bool, true, false, not, cond, eqb, ltb, ltb-false, if◌then◌else◌, ◌||◌, List, [], ◌∷◌, ◌++◌, length, take, drop, get_or, ◌-◌, ◌≢◌, ne_eqb, unwrap_or, Option, Some, None, append_assoc, length-drop, arith}
 use Rattle.std.proofs.lemmas.List.{append-nil, take_rest}
 use Rattle.std.proofs.lemmas.List.Sums.{prefix_len-le-length}
 use Rattle.std.specs.List.{before_first, position, position_or_len}
@@ -112,11 +112,6 @@ close-front (b ∷ bs) some h = ap (λ r. Close ∷ pieces_of r) (rest-is b bs) 
 pub word-front : (text : List ℕ) → 1 ≤ length text → IsUnblank text → get_or text 0 0 ≢ 40 → get_or text 0 0 ≢ 41 → IsWordFront text
 word-front [] some h e f = absurd (omega arith)
 word-front (b ∷ bs) some h e f = no_mark b h (ne_eqb b 40 e) (ne_eqb b 41 f)
-
--- a byte that is no blank is first
-pub unblank-front : (text : List ℕ) → 1 ≤ length text → is_blank (get_or text 0 0) ≡ false → IsUnblank text
-unblank-front [] some h = absurd (omega arith)
-unblank-front (b ∷ bs) some h = h
 
 pub rest-shorter : (text : List ℕ) → length (take (length text - 1) (drop 1 text)) ≤ length text
 rest-shorter text = rw (take_rest text 1) (omega (arith, length-drop 1 text))

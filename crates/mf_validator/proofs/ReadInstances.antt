@@ -1,22 +1,20 @@
 -- What a plan file writes are instances of the task, at most one for each line.
-use Rattle.std.proofs.Common.{◌≡◌, refl, sym, ◌∙◌, ap, ap₂, subst, ℕ, suc, zero, ◌+◌, ◌<◌, ◌≤◌, Bool, true, false, ◌||◌, if◌then◌else◌, List, [], ◌∷◌, ◌++◌, map, length, get_or, Option, None, Some, Result, Ok, Err, IfOk, slice_get, append_assoc, length-append, arith}
-use Rattle.std.specs.List.{All, Contains, flat_map, list_any, position, slice_index_or}
+use Rattle.std.proofs.Common.{◌≡◌, refl, sym, ◌∙◌, ap, subst, ℕ, suc, zero, ◌+◌, ◌<◌, ◌≤◌, Bool, true, false, if◌then◌else◌, List, [], ◌∷◌, ◌++◌, map, length, Option, None, Some, Result, Ok, Err, IfOk, slice_get, append_assoc, length-append, arith}
+use Rattle.std.specs.List.{All, Contains, flat_map, slice_index_or}
 use Rattle.std.specs.Char.{to_ascii_lowercase}
 use Rattle.std.specs.Str.{bytes_eq}
 use Rattle.std.proofs.Math.ListN.{get_or-map}
 use Rattle.std.proofs.lemmas.List.{append-nil, length-map}
 use Rattle.std.proofs.lemmas.List.Elements.{All-nil, All-cons, All-append, Contains-append_left, Contains-append_right}
 use Rattle.std.proofs.lemmas.List.Quantifiers.{position-Some}
-use Rattle.std.proofs.lemmas.Option.{slice_get-get_or}
 use Rattle.mf_model.specs.declared.state.Instance.{Instance}
 use Rattle.mf_model.specs.declared.task.Action.{Action}
 use Rattle.mf_model.specs.declared.task.TypedTask.{TypedTask}
 use Rattle.mf_model.specs.Application.{instances_from, instances_of}
-use Rattle.mf_model.specs.Objects.{bindings, having, kinds_of, meets, member}
+use Rattle.mf_model.specs.Objects.{bindings, having, kinds_of, meets}
 use Rattle.mf_model.specs.Options.{◌>>=◌}
 use Rattle.mf_model.specs.Resolution.{number_of}
 use Rattle.mf_validator.specs.declared.fault.PlanFault.{PlanFault}
-use Rattle.mf_validator.specs.declared.fault.PlanFault.TheVariants as fault
 use Rattle.mf_validator.specs.PlanLines.{Line, Blank, Step, Bad, line_of, lines_of}
 use Rattle.mf_validator.specs.PlanText.{Reads, action_names, alone, argument_of, arguments_of, by_action, fitting, folded, instance_of, joined, object_names, parameters_of, plan_of, steps_from, steps_of, with_arguments}
 use Rattle.mf_validator.proofs.LineLemmas.{few-lines}

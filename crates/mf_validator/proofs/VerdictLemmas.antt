@@ -1,7 +1,6 @@
 -- The verdict one step at a time.
-use Rattle.std.proofs.Common.{◌≡◌, refl, sym, ◌∙◌, ap, subst, ℕ, suc, ◌+◌, ◌<◌, Bool, true, false, List, [], ◌∷◌, length, Option, Some, None, Result, Ok, Err, get_or, drop, drop-cons, add-one, arith, if◌then◌else◌}
+use Rattle.std.proofs.Common.{◌≡◌, sym, ◌∙◌, ap, subst, ℕ, suc, ◌+◌, ◌<◌, Bool, true, false, List, [], ◌∷◌, length, Option, Some, Result, Ok, Err, get_or, drop, drop-cons, add-one, if◌then◌else◌}
 use Rattle.mf_fraction.specs.Exact.{Number}
-use Rattle.mf_fraction.specs.declared.faults.Wide.{Wide}
 use Rattle.mf_model.specs.declared.state.Instance.{Instance}
 use Rattle.mf_model.specs.declared.state.PlainState.{PlainState}
 use Rattle.mf_model.specs.declared.task.Metric.{Metric}

@@ -1,5 +1,5 @@
 -- Tables of the names of a task.
-use Rattle.std.specs.Prelude.{◌≡◌, ℕ, List, [], ◌∷◌, length, Option, Some, None, Result, Ok, Err, slice_get}
+use Rattle.std.specs.Prelude.{◌≡◌, ℕ, List, [], ◌∷◌, length, Option, Result, Ok, Err, slice_get}
 use Rattle.mf_model.specs.declared.state.Instance.{Instance}
 use Rattle.mf_model.specs.declared.task.TypedTask.{TypedTask}
 use Rattle.mf_model.specs.Options.{◌>>=◌}
@@ -8,7 +8,7 @@ use Rattle.mf_validator.specs.declared.directory.Directory.{Directory}
 use Rattle.mf_validator.specs.declared.directory.Lexicon.{Lexicon}
 use Rattle.mf_validator.specs.declared.fault.PlanFault.{PlanFault}
 use Rattle.mf_validator.specs.declared.fault.PlanFault.TheVariants as fault
-use Rattle.mf_validator.specs.PlanText.{Reads, action_names, before, instance_of, object_names}
+use Rattle.mf_validator.specs.PlanText.{action_names, before, instance_of, object_names}
 
 -- what a table has under a name
 abbrev pub number_in : Directory → List ℕ → Option ℕ

@@ -5,7 +5,7 @@ use Rattle.mf_validator.specs.declared.piece.Next.{Next}
 use Rattle.mf_validator.specs.declared.piece.Next.TheVariants as next
 use Rattle.mf_validator.specs.declared.line.Form.{Form}
 use Rattle.mf_validator.specs.declared.line.Form.TheVariants as form
-use Rattle.mf_validator.specs.PlanLines.{Piece, Open, Close, Word, Line, Blank, Step, Bad, is_mark, pieces_of, step_of}
+use Rattle.mf_validator.specs.PlanLines.{Piece, Open, Close, Word, Line, Blank, Bad, is_mark, pieces_of, step_of}
 
 -- the pieces of the text whose front was found
 abbrev pub pieces_at : Next → List Piece

@@ -1,5 +1,4 @@
 ghost use Rattle.mf_validator.specs.Lexicons.{Knows, Lists, number_in};
-ghost use Rattle.mf_validator.specs.PlanText.{action_names, object_names};
 ghost use Rattle.std.specs.Prelude.{◌≡◌, ◌≤◌, ◌++◌, ℕ, List, [], ◌∷◌, IfOk, OnOk, length, map};
 
 use mf_model::{Action, Object, Text, TypedTask};

@@ -1,5 +1,5 @@
 ghost use Rattle.mf_validator.specs.Pieces.{line_at};
-ghost use Rattle.mf_validator.specs.PlanLines.{are_none, line_of, line_of_pieces, may_end, names_behind, opened, pieces_of, without_comment, is_semicolon};
+ghost use Rattle.mf_validator.specs.PlanLines.{are_none, line_of, may_end, names_behind, opened, pieces_of, is_semicolon};
 ghost use Rattle.std.specs.List.{position, position_or_len};
 ghost use Rattle.std.specs.Prelude.{◌≡◌, ◌≤◌, [], IfOk, length};
 

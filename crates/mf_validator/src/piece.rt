@@ -2,7 +2,7 @@ ghost use Rattle.mf_model.specs.Tokens.{is_blank};
 ghost use Rattle.mf_validator.specs.Pieces.{IsShorter, IsUnblank, IsWordFront, pieces_at};
 ghost use Rattle.mf_validator.specs.PlanLines.{is_mark, pieces_of};
 ghost use Rattle.std.specs.List.{position, position_or_len};
-ghost use Rattle.std.specs.Prelude.{◌≡◌, ◌≤◌, ◌<◌, false, length, slice_index};
+ghost use Rattle.std.specs.Prelude.{◌≡◌, ◌≤◌, length};
 
 /// The first piece of a text, and what stands behind it.
 #[derive(Clone, Copy)]

@@ -1,9 +1,10 @@
 //! The kinds of words of a plan file, in small letters.
 ghost use Rattle.mf_model.specs.Tokens as tokens;
 ghost use Rattle.mf_validator.specs.PlanLines as spec;
-ghost use Rattle.std.specs.Char.{is_ascii_digit};
 ghost use Rattle.std.specs.List.{list_all};
 ghost use Rattle.std.specs.Prelude.{◌≡◌};
+
+use mf_fraction::{NumberFault, read_decimal};
 
 #[tactic(auto, unfolding(mf_model::specs::Tokens::is_name_byte))]
 fn is_name_byte(byte: u8) -> bool
@@ -28,53 +29,14 @@ pub(crate) fn is_name(word: &[u8]) -> bool
     }
 }
 
-fn are_digits(bytes: &[u8]) -> bool
-    ensures { result ≡ list_all is_ascii_digit bytes.now }
-{
-    bytes.iter().all(|byte| byte.is_ascii_digit())
-}
-
-fn is_digits(word: &[u8]) -> bool
-    ensures { result ≡ tokens.is_digits word.now }
-{
-    match word {
-        [first, others @ ..] => first.is_ascii_digit() && are_digits(others),
-        [] => false,
-    }
-}
-
-// Digits, and then optionally a point and digits.
-fn ends_number(mut rest: &[u8]) -> bool
-    ensures { result ≡ tokens.ends_number rest.entry.now }
-{
-    while let [byte, others @ ..] = rest {
-        if *byte == b'.' {
-            return is_digits(others);
-        }
-        if !byte.is_ascii_digit() {
-            return false;
-        }
-        rest = others;
-    }
-    true
-}
-
-fn is_unsigned(word: &[u8]) -> bool
-    ensures { result ≡ tokens.is_unsigned word.now }
-{
-    match word {
-        [first, others @ ..] => first.is_ascii_digit() && ends_number(others),
-        [] => false,
-    }
-}
-
 // An optional `-`, digits, and optionally a point and digits.
 fn is_number(word: &[u8]) -> bool
     ensures { result ≡ tokens.is_number word.now }
 {
-    match word {
-        [first, others @ ..] if *first == b'-' => is_unsigned(others),
-        _ => is_unsigned(word),
+    match read_decimal(word) {
+        Ok(_) => true,
+        Err(NumberFault::Wide) => true,
+        Err(NumberFault::NotANumber) => false,
     }
 }
 

@@ -1,4 +1,4 @@
-use Rattle.std.proofs.Common.{◌≡◌, sym, ◌∙◌, subst, ap, ◌+◌, ◌<◌, List, Result, drop, length, arith}
+use Rattle.std.proofs.Common.{sym, ◌∙◌, subst, ◌+◌, Result, drop}
 use Rattle.std.specs.List.{Contains}
 use Rattle.std.proofs.lemmas.List.Elements.{All-get_or}
 use Rattle.mf_model.specs.declared.state.Instance.{Instance}

@@ -1,4 +1,4 @@
-use Rattle.std.proofs.Common.{sym, ◌∙◌, arith}
+use Rattle.std.proofs.Common.{◌∙◌}
 use Rattle.mf_validator.proofs.PieceLemmas.{open-front, close-front, word-front}
 use Rattle.mf_validator.proofs.piece.next_piece.Goals as goal
 

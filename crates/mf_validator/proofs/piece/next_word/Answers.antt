@@ -1,4 +1,4 @@
-use Rattle.std.proofs.Common.{sym, ◌∙◌, ap, List, ℕ, ◌∷◌, take, drop}
+use Rattle.std.proofs.Common.{sym, ◌∙◌, ap, List, ℕ, ◌∷◌, take}
 use Rattle.std.proofs.lemmas.List.{take_rest}
 use Rattle.mf_validator.specs.PlanLines.{Word, pieces_of}
 use Rattle.mf_validator.proofs.PieceLemmas.{word-is, word-shorter}

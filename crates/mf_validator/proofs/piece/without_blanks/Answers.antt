@@ -1,5 +1,4 @@
-use Rattle.std.proofs.Common.{◌≡◌, ◌≤◌, ◌-◌, sym, ◌∙◌, arith, length, take, drop}
-use Rattle.std.proofs.lemmas.List.{take_rest}
+use Rattle.std.proofs.Common.{◌≤◌, ◌-◌, sym, ◌∙◌, arith, length, take, drop}
 use Rattle.mf_validator.proofs.PieceLemmas.{blank-front, rest-shorter}
 use Rattle.mf_validator.proofs.piece.without_blanks.Goals as goal
 

@@ -1,4 +1,4 @@
-use Rattle.std.proofs.Common.{◌≡◌, ◌<◌, [], map, ◌∙◌, sym, length, arith, List, ℕ, Bor}
+use Rattle.std.proofs.Common.{◌<◌, [], map, ◌∙◌, sym, length, arith}
 use Rattle.std.proofs.lemmas.List.{length-map}
 use Rattle.mf_validator.proofs.ArgumentLemmas.{fails-at, goes-on, unequal}
 use Rattle.mf_validator.proofs.step.read_arguments.Goals as goal

@@ -1,6 +1,5 @@
 use Rattle.std.proofs.Common.{[], ◌∷◌}
 use Rattle.std.proofs.lemmas.List.Elements.{All-nil, All-cons, All-same}
-use Rattle.mf_model.specs.declared.task.Action.{Action}
 use Rattle.mf_validator.proofs.InstanceLemmas.{ActionBindsFew}
 use Rattle.mf_validator.proofs.tests.task.Goals as goal
 

@@ -1,4 +1,4 @@
-use Rattle.std.proofs.Common.{◌≡◌, ◌∙◌, ap, sym, ◌++◌, ◌∷◌, [], List, ℕ, true}
+use Rattle.std.proofs.Common.{◌≡◌, ◌∙◌, ap, sym, List, ℕ, true}
 use Rattle.std.specs.Option.{is_some}
 use Rattle.mf_model.specs.Resolution.{number_of}
 use Rattle.mf_validator.proofs.Tables.{known-name, new-name}
