@@ -16,8 +16,6 @@ use Rattle.mf_reader.specs.declared.fault.FormFault.TheVariants as form
 use Rattle.mf_reader.specs.Laws.{IsReadingOf}
 use Rattle.mf_reader.specs.Order.{IsAnsweredFault}
 use Rattle.mf_reader.specs.Said.{Said, FirstIs, Refuses}
-use Rattle.mf_input.specs.declared.refusal.FileFault.{FileFault}
-use Rattle.mf_input.specs.declared.refusal.FileFault.TheVariants as file
 use Rattle.mf_input.specs.Files.{IsFileOf}
 use Rattle.mf_input.specs.Kinds.{lex_refusal, tree_refusal, form_refusal}
 use Rattle.mf_input.specs.Refusals.{ReadsTree, ReadsFile}
@@ -67,12 +65,3 @@ form_refused reading Form reads source tree (form.BadForm span) is_tree first le
   none = no_value reading Form reads source tree (form.BadForm span) is_tree first;
 }
 form_refused reading Form reads source tree form.Memory is_tree first least = tt
-
--- a file without a tree is refused for its tokens or its brackets
-pub tree_lost : {A : Type 0} (Form : A → Tree → Type 0) (faults : Tree → List FormFault) (source : List ℕ) (fault : FileFault) →
-    ReadsTree source (Err fault) → ReadsFile Form faults source (Err fault)
-tree_lost Form faults source (file.Refused kind at) refuses = record {
-  refusal = inl refuses.0;
-  none = λ value has. refuses.1 has.tree has.is_tree;
-}
-tree_lost Form faults source file.Memory refuses = tt

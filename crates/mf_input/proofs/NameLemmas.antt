@@ -22,7 +22,7 @@ use Rattle.mf_input.specs.declared.refusal.InputFault.{InputFault}
 use Rattle.mf_input.specs.declared.refusal.InputFault.TheVariants as input
 use Rattle.mf_input.specs.Files.{IsDomainFile, IsProblemFile, IsTaskOfFiles}
 use Rattle.mf_input.specs.Kinds.{file_refusal, name_refusal}
-use Rattle.mf_input.specs.Refusals.{ReadsFile, ReadsNames, ReadsProblem, ReadsFiles, IsFirstRefusal, HaveNoTask, domain_form_faults, problem_form_faults}
+use Rattle.mf_input.specs.Refusals.{ReadsFile, ReadsNames, ReadsProblem, ReadsFiles, domain_form_faults, problem_form_faults}
 use Rattle.mf_input.proofs.FileLemmas.{only_value}
 
 pub names_answer : (d : Domain) (p : Problem) (fault : NameFault) → NamesFirst d p (fault_named fault) → ReadsNames d p (Err (name_refusal fault))
@@ -90,11 +90,3 @@ domain_refused domain_source problem_source (file.Refused kind at) refuses = rec
 domain_refused domain_source problem_source file.Memory refuses = tt
 
 -- the clauses of the call
-
-pub first_refusal : (domain_source problem_source : List ℕ) (fault : InputFault) → ReadsFiles domain_source problem_source (Err fault) → IsFirstRefusal domain_source problem_source fault
-first_refusal domain_source problem_source (input.Refused refusal) refuses = refuses.refusal_is
-first_refusal domain_source problem_source input.Memory refuses = tt
-
-pub no_task : (domain_source problem_source : List ℕ) (fault : InputFault) → ReadsFiles domain_source problem_source (Err fault) → HaveNoTask domain_source problem_source fault
-no_task domain_source problem_source (input.Refused refusal) refuses = refuses.none
-no_task domain_source problem_source input.Memory refuses = tt

@@ -23,9 +23,6 @@ use Rattle.mf_plain.proofs.Marks.{unmarked}
 pub values_len : (task : TypedTask) (budget takes : ℕ) (p : Progress) → IsUnderWay task budget takes p → length p.history.values ≡ length (world_of task p.history).opened
 values_len task budget takes p u = ap length u.columns.values_are ∙ length-map (world_of task p.history).opened (λ o. o.value)
 
-pub rows_len : (task : TypedTask) (budget takes : ℕ) (p : Progress) → IsUnderWay task budget takes p → length p.history.rows ≡ length p.history.values
-rows_len task budget takes p u = ap length u.columns.states_are ∙ length-map (world_of task p.history).opened (λ o. o.state) ∙ sym (values_len task budget takes p u)
-
 pub flags_len : (task : TypedTask) (budget takes : ℕ) (p : Progress) → IsUnderWay task budget takes p → length p.taken.items ≡ length p.history.values
 flags_len task budget takes p u = u.columns.flags_len ∙ sym (values_len task budget takes p u)
 

@@ -1,18 +1,11 @@
 -- Lists of numbers compared from their fronts.
-use Rattle.std.proofs.Common.{◌≡◌, ℕ, ◌+◌, ◌<◌, ◌≤◌, ◌&&◌, ◌||◌, false, nat_eq, nat_lt, List, [], ◌∷◌, length, get_or, drop, refl, sym, ap, ◌∙◌, ⊎_elim, arith}
-use Rattle.std.specs.Cmp.Lexicographic.{pointwise}
+use Rattle.std.proofs.Common.{◌≡◌, ℕ, ◌+◌, ◌<◌, ◌≤◌, ◌&&◌, false, nat_eq, nat_lt, List, [], length, get_or, drop, refl, sym, ap, ◌∙◌, ⊎_elim, arith}
 use Rattle.std.proofs.lemmas.Bool.{cases_lt, lt-ltb, le-ltb, eq-eqb, ne_eqb}
 use Rattle.std.proofs.lemmas.Bool.{and_left}
 use Rattle.std.proofs.lemmas.List.{drop_more, drop_all, get_or-map, length-map}
 use Rattle.mf_model.specs.declared.task.Term.{Term}
 use Rattle.mf_model.specs.Views.{object_of, objects_of}
 use Rattle.mf_model.specs.States.{same_numbers, numbers_before}
-
-pub same_numbers_is : (xs ys : List ℕ) → same_numbers xs ys ≡ pointwise nat_eq xs ys
-same_numbers_is [] [] = refl
-same_numbers_is [] (y ∷ ys) = refl
-same_numbers_is (x ∷ xs) [] = refl
-same_numbers_is (x ∷ xs) (y ∷ ys) = ap (λ b. nat_eq x y && b) (same_numbers_is xs ys)
 
 pub same_step : (xs ys : List ℕ) (i : ℕ) → i < length xs → i < length ys → same_numbers (drop i xs) (drop i ys) ≡ (nat_eq (get_or xs i 0) (get_or ys i 0) && same_numbers (drop (i + 1) xs) (drop (i + 1) ys))
 same_step xs ys i h k = rw (drop_more xs i 0 h, drop_more ys i 0 k) refl
@@ -28,12 +21,6 @@ same_end xs ys i h k = rw (drop_all i xs h) (⊎_elim more none (cases_lt i (len
 
     none : length ys ≤ i → same_numbers [] (drop i ys) ≡ nat_eq i (length ys)
     none l = rw (drop_all i ys l, eq-eqb i (length ys) (omega arith)) refl
-
-pub before_step : (xs ys : List ℕ) (i : ℕ) → i < length xs → i < length ys → numbers_before (drop i xs) (drop i ys) ≡ (nat_lt (get_or xs i 0) (get_or ys i 0) || (nat_eq (get_or xs i 0) (get_or ys i 0) && numbers_before (drop (i + 1) xs) (drop (i + 1) ys)))
-before_step xs ys i h k = rw (drop_more xs i 0 h, drop_more ys i 0 k) refl
-
-pub before_short : (xs ys : List ℕ) (i : ℕ) → i < length xs → length ys ≤ i → numbers_before (drop i xs) (drop i ys) ≡ false
-before_short xs ys i h k = rw (drop_more xs i 0 h, drop_all i ys k) refl
 
 pub before_end : (xs ys : List ℕ) (i : ℕ) → length xs ≤ i → i ≤ length ys → numbers_before (drop i xs) (drop i ys) ≡ nat_lt i (length ys)
 before_end xs ys i h k = rw (drop_all i xs h) (⊎_elim more none (cases_lt i (length ys)))

@@ -1,7 +1,6 @@
 ghost use Rattle.std.specs.Prelude.{◌≡◌, true, IfOk, OnOk, not, filter};
-ghost use Rattle.std.specs.List.{list_any, fold};
-ghost use Rattle.mf_model.specs.States.{is_atom, same_atom, with_atom, without_atom};
-ghost use Rattle.mf_model.specs.Views.{objects_of};
+ghost use Rattle.std.specs.List.{fold};
+ghost use Rattle.mf_model.specs.States.{with_atom, without_atom};
 ghost use Rattle.mf_plain.specs.Changes.{only_changes_atoms, adds_of, deletes_of, is_deleted};
 
 use crate::Memory;

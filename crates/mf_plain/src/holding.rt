@@ -1,7 +1,7 @@
 ghost use Rattle.std.specs.Prelude.{◌≡◌, ◌++◌, true, OnOk};
 ghost use Rattle.std.specs.List.{list_any, count_by};
 ghost use Rattle.std.specs.Prelude.{not};
-ghost use Rattle.mf_model.specs.States.{is_atom, same_atom};
+ghost use Rattle.mf_model.specs.States.{is_atom};
 ghost use Rattle.mf_model.specs.Views.{objects_of};
 ghost use Rattle.mf_plain.specs.Conjunctions.{is_conjunction, needs_of, is_true, all_needs};
 

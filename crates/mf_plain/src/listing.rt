@@ -1,4 +1,4 @@
-ghost use Rattle.std.specs.Prelude.{◌≡◌, [], ◌++◌, ◌<◌, ◌^◌, length, IfOk, OnOk, All};
+ghost use Rattle.std.specs.Prelude.{◌≡◌, [], ◌++◌, IfOk, OnOk, All};
 ghost use Rattle.mf_model.specs.Application.{instances_of};
 ghost use Rattle.mf_model.specs.Objects.{HaveTopType, bindings, kinds_of};
 ghost use Rattle.mf_model.specs.Plain.{IsObjectType};

@@ -1,6 +1,6 @@
 //! Sorted lists of atoms.
-ghost use Rattle.std.specs.Prelude.{◌≡◌, ◌≤◌, length, insert, OnOk};
-ghost use Rattle.mf_model.specs.States.{same_numbers, numbers_before, same_atom, atom_before, with_atom};
+ghost use Rattle.std.specs.Prelude.{◌≡◌, insert, OnOk};
+ghost use Rattle.mf_model.specs.States.{numbers_before, same_atom, atom_before, with_atom};
 ghost use Rattle.mf_plain.specs.Places.{IsPlaceOf};
 
 use crate::Memory;

@@ -1,4 +1,4 @@
-ghost use Rattle.std.specs.Prelude.{◌≡◌, ◌≤◌, ◌<◌, ◌^◌, ℕ, [], ◌∷◌, ◌++◌, List, length, get_or, IfOk, OnOk};
+ghost use Rattle.std.specs.Prelude.{◌≡◌, ◌≤◌, ◌<◌, ◌^◌, ℕ, [], ◌∷◌, ◌++◌, List, length, IfOk, OnOk};
 ghost use Rattle.mf_model.specs.Application.{instances_of};
 ghost use Rattle.mf_model.specs.Objects.{HaveTopType};
 ghost use Rattle.mf_plain.specs.PlainTask.{IsPlainTask};

@@ -31,10 +31,6 @@ both_given Q R P make None p h k j = tt
 both_given Q R P make (Some x) None h k j = tt
 both_given Q R P make (Some x) (Some y) h k j = j x y h k
 
-pub pair_given : {A : Type 0} (P Q : A → Type 0) (o : Option A) → IfGiven P o → IfGiven Q o → IfGiven (λ x. P x × Q x) o
-pair_given P Q None h k = tt
-pair_given P Q (Some x) h k = (h, k)
-
 cons_given : {A : Type 0} (Q : A → Type 0) (R P : List A → Type 0) (o : Option A) (p : Option (List A)) → IfGiven Q o → IfGiven R p → ((x : A) (xs : List A) → Q x → R xs → P (x ∷ xs)) → IfGiven P (o >>= (λ x. p >>= (λ xs. Some (x ∷ xs))))
 cons_given Q R P None p h k j = tt
 cons_given Q R P (Some x) None h k j = tt

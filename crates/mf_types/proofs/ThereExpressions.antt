@@ -16,7 +16,7 @@ use Rattle.mf_model.specs.declared.task.Expr.TheVariants as x
 use Rattle.mf_model.specs.Options.{all_some}
 use Rattle.mf_types.specs.Arguments.{entry, symbol_faults, function_parameters, function_faults, term_faults}
 use Rattle.mf_types.specs.Expressions as faults
-use Rattle.mf_types.specs.Expressions.{Seen, is_wide, number_faults, part_faults, seen, steps_faults}
+use Rattle.mf_types.specs.Expressions.{Seen, is_wide, part_faults, seen, steps_faults}
 use Rattle.mf_types.specs.Scopes.{Scope}
 use Rattle.mf_types.specs.Sites.{Site}
 use Rattle.mf_types.specs.Typing.{Binders, exact_of, number_in, time_by, without_parameters, function_of, terms_of, term_expr, expr_step, expr_of}

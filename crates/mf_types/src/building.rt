@@ -1,4 +1,4 @@
-ghost use Rattle.std.specs.Prelude.{◌≡◌, ◌≤◌, [], length};
+ghost use Rattle.std.specs.Prelude.{◌≡◌, []};
 ghost use Rattle.std.specs.Bool.{OnTrue};
 ghost use Rattle.mf_types.specs.Gives.{Gives};
 ghost use Rattle.mf_types.specs.Tables.{declared_of};

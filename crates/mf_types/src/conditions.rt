@@ -1,6 +1,5 @@
 ghost use Rattle.std.specs.Prelude.{◌≡◌, IfOk, OnOk, map};
 ghost use Rattle.mf_types.specs.Conditions as spec;
-ghost use Rattle.mf_types.specs.Expressions.{expr_faults};
 ghost use Rattle.mf_types.specs.Faults.{after};
 ghost use Rattle.mf_types.specs.Quantified.{quantified};
 ghost use Rattle.mf_types.specs.Sites.{site_of};

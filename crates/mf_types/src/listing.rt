@@ -1,4 +1,4 @@
-ghost use Rattle.std.specs.Prelude.{◌≡◌, ◌++◌, ◌∷◌, [], map, IfOk, OnOk};
+ghost use Rattle.std.specs.Prelude.{◌≡◌, ◌∷◌, [], map, IfOk, OnOk};
 ghost use Rattle.mf_types.specs.Declarations as spec;
 ghost use Rattle.mf_types.specs.Faults.{after};
 ghost use Rattle.mf_types.specs.Names.{text_of};

@@ -1,4 +1,4 @@
-ghost use Rattle.std.specs.Prelude.{◌≡◌, [], Some, IfOk};
+ghost use Rattle.std.specs.Prelude.{◌≡◌, [], Some};
 ghost use Rattle.mf_types.specs.AllFaults.{faults_of};
 ghost use Rattle.mf_types.specs.Names.{declared_by};
 ghost use Rattle.mf_types.specs.Resolved as spec;

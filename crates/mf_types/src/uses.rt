@@ -1,4 +1,4 @@
-ghost use Rattle.std.specs.Prelude.{◌≡◌, [], IfOk};
+ghost use Rattle.std.specs.Prelude.{◌≡◌, IfOk};
 ghost use Rattle.std.specs.List.{flat_map};
 ghost use Rattle.mf_types.specs.Conditions.{both_faults, cond_faults};
 ghost use Rattle.mf_types.specs.Effects.{effect_faults};

@@ -1,4 +1,4 @@
-ghost use Rattle.std.specs.Prelude.{◌≡◌, ◌≤◌, ◌++◌, [], length, map, IfOk, OnOk};
+ghost use Rattle.std.specs.Prelude.{◌≡◌, ◌≤◌, ◌++◌, length, IfOk, OnOk};
 ghost use Rattle.mf_model.specs.Resolution.{typed_names};
 ghost use Rattle.mf_types.specs.Gives.{Gives};
 ghost use Rattle.mf_types.specs.Names as names;
