@@ -42,25 +42,32 @@ natural IsWhen X v k (RawEffect-F.Group parts span) = λ i t. IsGrouped (λ ts. 
 natural IsWhen X v k (RawEffect-F.Each variables part span) = refl
 natural IsWhen X v k (RawEffect-F.When condition part span) = refl
 
+-- the effects where the conditions before them are as `IsWhen` says
+abbrev pub EffectBy : (RawCond → RawEffect → Span → Tree → Type 0) → RawEffect → Tree → Type 0
+EffectBy IsWhen = rec-RawEffect (Tree → Type 0) (IsEffect_form IsWhen)
+
+abbrev pub EffectRowBy : (RawCond → RawEffect → Span → Tree → Type 0) → RawEffect-F RawEffect → Tree → Type 0
+EffectRowBy IsWhen = IsEffect_form IsWhen RawEffect (λ y. y) (EffectBy IsWhen)
+
+pub effect_row : (IsWhen : RawCond → RawEffect → Span → Tree → Type 0) (y : RawEffect-F RawEffect) (t : Tree) → EffectBy IsWhen (roll-RawEffect y) t ≡ EffectRowBy IsWhen y t
+effect_row IsWhen y t = ap (λ (f : Tree → Type 0). f t) (rec-roll-RawEffect (Tree → Type 0) (IsEffect_form IsWhen) (natural IsWhen) y)
+
 abbrev pub IsWhenIn : EffectPlace → RawCond → RawEffect → Span → Tree → Type 0
 IsWhenIn Action = IsWhen
 IsWhenIn When = NoWhen
 
 -- the effects of a place
 abbrev pub EffectIn : EffectPlace → RawEffect → Tree → Type 0
-EffectIn place = rec-RawEffect (Tree → Type 0) (IsEffect_form (IsWhenIn place))
+EffectIn place = EffectBy (IsWhenIn place)
 
 abbrev pub EffectRow : EffectPlace → RawEffect-F RawEffect → Tree → Type 0
-EffectRow place = IsEffect_form (IsWhenIn place) RawEffect (λ y. y) (EffectIn place)
-
-effect_row : (place : EffectPlace) (y : RawEffect-F RawEffect) (t : Tree) → EffectIn place (roll-RawEffect y) t ≡ EffectRow place y t
-effect_row place y t = ap (λ (f : Tree → Type 0). f t) (rec-roll-RawEffect (Tree → Type 0) (IsEffect_form (IsWhenIn place)) (natural (IsWhenIn place)) y)
+EffectRow place = EffectRowBy (IsWhenIn place)
 
 by_row : (place : EffectPlace) (y : RawEffect-F RawEffect) (v : RawEffect) (t : Tree) → roll-RawEffect y ≡ v → EffectRow place y t → EffectIn place v t
-by_row place y v t is h = subst (λ (z : RawEffect). EffectIn place z t) is (subst (λ (T : Type 0). T) (sym (effect_row place y t)) h)
+by_row place y v t is h = subst (λ (z : RawEffect). EffectIn place z t) is (subst (λ (T : Type 0). T) (sym (effect_row (IsWhenIn place) y t)) h)
 
 pub effect_row_of : (place : EffectPlace) (y : RawEffect-F RawEffect) (t : Tree) → EffectIn place (roll-RawEffect y) t → EffectRow place y t
-effect_row_of place y t h = subst (λ (T : Type 0). T) (effect_row place y t) h
+effect_row_of place y t h = subst (λ (T : Type 0). T) (effect_row (IsWhenIn place) y t) h
 
 -- Words and lists at a place
 

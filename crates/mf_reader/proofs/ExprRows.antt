@@ -26,22 +26,29 @@ natural IsTime X v k (RawExpr-F.Product parts span) = λ i t. IsMany (codes "*")
 natural IsTime X v k (RawExpr-F.Quotient left right span) = refl
 natural IsTime X v k (RawExpr-F.TotalTime span) = refl
 
+-- the expressions where the number of steps is written as `IsTime` says
+abbrev pub ExprBy : (Span → Tree → Type 0) → RawExpr → Tree → Type 0
+ExprBy IsTime = rec-RawExpr (Tree → Type 0) (IsExpr_form IsTime)
+
+abbrev pub RowBy : (Span → Tree → Type 0) → RawExpr-F RawExpr → Tree → Type 0
+RowBy IsTime = IsExpr_form IsTime RawExpr (λ y. y) (ExprBy IsTime)
+
+pub expr_row : (IsTime : Span → Tree → Type 0) (y : RawExpr-F RawExpr) (t : Tree) → ExprBy IsTime (roll-RawExpr y) t ≡ RowBy IsTime y t
+expr_row IsTime y t = ap (λ (f : Tree → Type 0). f t) (rec-roll-RawExpr (Tree → Type 0) (IsExpr_form IsTime) (natural IsTime) y)
+
 abbrev pub IsTimeIn : ExprPlace → Span → Tree → Type 0
 IsTimeIn Action = NoTime
 IsTimeIn Metric = IsTotalTime
 
 -- the expressions of a place
 abbrev pub ExprIn : ExprPlace → RawExpr → Tree → Type 0
-ExprIn place = rec-RawExpr (Tree → Type 0) (IsExpr_form (IsTimeIn place))
+ExprIn place = ExprBy (IsTimeIn place)
 
 abbrev pub RowIn : ExprPlace → RawExpr-F RawExpr → Tree → Type 0
-RowIn place = IsExpr_form (IsTimeIn place) RawExpr (λ y. y) (ExprIn place)
-
-pub expr_row : (place : ExprPlace) (y : RawExpr-F RawExpr) (t : Tree) → ExprIn place (roll-RawExpr y) t ≡ RowIn place y t
-expr_row place y t = ap (λ (f : Tree → Type 0). f t) (rec-roll-RawExpr (Tree → Type 0) (IsExpr_form (IsTimeIn place)) (natural (IsTimeIn place)) y)
+RowIn place = RowBy (IsTimeIn place)
 
 pub by_row : (place : ExprPlace) (y : RawExpr-F RawExpr) (v : RawExpr) (t : Tree) → roll-RawExpr y ≡ v → RowIn place y t → ExprIn place v t
-by_row place y v t is h = subst (λ (z : RawExpr). ExprIn place z t) is (subst (λ (T : Type 0). T) (sym (expr_row place y t)) h)
+by_row place y v t is h = subst (λ (z : RawExpr). ExprIn place z t) is (subst (λ (T : Type 0). T) (sym (expr_row (IsTimeIn place) y t)) h)
 
 pub row_of : (place : ExprPlace) (y : RawExpr-F RawExpr) (t : Tree) → ExprIn place (roll-RawExpr y) t → RowIn place y t
-row_of place y t h = subst (λ (T : Type 0). T) (expr_row place y t) h
+row_of place y t h = subst (λ (T : Type 0). T) (expr_row (IsTimeIn place) y t) h
