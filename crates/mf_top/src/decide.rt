@@ -1,7 +1,8 @@
 ghost use Rattle.std.specs.Prelude.{◌≡◌, ℕ, ◌≤◌, ◌++◌, List, Some, IfOk};
 ghost use Rattle.std.specs.Str.{IsUtf8};
 ghost use Rattle.mf_io.specs.declared.folder.Loading.{Loading};
-ghost use Rattle.mf_plain.specs.PlainTask.{HaveTopType, IsPlainTask};
+ghost use Rattle.mf_model.specs.Objects.{HaveTopType};
+ghost use Rattle.mf_plain.specs.PlainTask.{IsPlainTask};
 ghost use Rattle.mf_plain.specs.Searches.{IsSearched};
 ghost use Rattle.mf_search.specs.declared.status.Status.TheVariants as status;
 ghost use Rattle.mf_top.specs.declared.outcome.Outcome.TheVariants.{Stopped};
