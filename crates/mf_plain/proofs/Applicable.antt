@@ -15,8 +15,7 @@ use Rattle.mf_model.specs.declared.state.Instance.{Instance}
 use Rattle.mf_model.specs.declared.state.PlainState.{PlainState}
 use Rattle.mf_model.specs.Application.{is_applicable, next_state, firing_of}
 use Rattle.mf_model.specs.Objects.{kinds_of}
-use Rattle.mf_model.specs.Plain.{IsPlainAction}
-use Rattle.mf_plain.specs.PlainTask.{IsPlainTask}
+use Rattle.mf_plain.specs.PlainTask.{IsPlainAction, IsPlainTask}
 use Rattle.mf_model.specs.States.{look_of, with_atom, without_atom}
 use Rattle.mf_plain.specs.Conjunctions.{is_conjunction, needs_of, all_needs}
 use Rattle.mf_plain.specs.Changes.{only_changes_atoms, adds_of, deletes_of}

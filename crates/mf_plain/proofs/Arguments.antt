@@ -1,6 +1,8 @@
 -- The argument lists of a plain task: every parameter takes every object.
-use Rattle.std.proofs.Common.{◌≡◌, Bool, true, false, if◌then◌else◌, ℕ, zero, suc, ◌+◌, ◌<◌, ◌≤◌, ◌++◌, List, [], ◌∷◌, All, length, get_or, drop, refl, sym, ap, ◌∙◌, subst, arith, add-zero, add-one}
-use Rattle.std.specs.List.{flat_map}
+use Rattle.std.proofs.Common.{◌≡◌, Bool, true, false, ◌||◌, ◌&&◌, ◌==◌, if◌then◌else◌, ℕ, zero, suc, ◌+◌, ◌<◌, ◌≤◌, ◌++◌, List, [], ◌∷◌, All, length, get_or, drop, refl, sym, ap, ◌∙◌, subst, arith, add-zero, add-one}
+use Rattle.std.specs.List.{flat_map, list_all}
+use Rattle.std.proofs.lemmas.Bool.{false≢true}
+use Rattle.std.proofs.lemmas.Bool.Decides.{Decides-eqb}
 use Rattle.std.proofs.lemmas.List.{append-nil, append_assoc, map-id, length-map, map_push, drop_all}
 use Rattle.std.proofs.lemmas.List.Concat.{flat_map-append, flat_map_single}
 use Rattle.std.proofs.lemmas.List.Folds.{flat_map-map}
@@ -9,9 +11,8 @@ use Rattle.mf_model.specs.declared.task.Action.{Action}
 use Rattle.mf_model.specs.declared.task.TypedTask.{TypedTask}
 use Rattle.mf_model.specs.declared.state.Instance.{Instance}
 use Rattle.mf_model.specs.Application.{instances_from}
-use Rattle.mf_model.specs.Objects.{HaveTopType, ancestors, bindings, having, kinds_of, meets, parents_of}
-use Rattle.mf_model.specs.Plain.{IsObjectType, IsPlainAction}
-use Rattle.mf_plain.specs.PlainTask.{IsPlainTask}
+use Rattle.mf_model.specs.Objects.{HaveTopType, ancestors, bindings, having, kinds_of, meets, member, parents_of}
+use Rattle.mf_plain.specs.PlainTask.{IsObjectType, IsPlainAction, IsPlainTask}
 use Rattle.mf_plain.specs.Listing.{numbers_from, with_next, extended, of_action}
 use Rattle.mf_plain.proofs.Placing.{drop_at_read}
 
@@ -36,14 +37,30 @@ one_more : (b : Bool) (n : ℕ) (rest : List ℕ) → b ≡ true → (if b then 
 one_more true n rest e = refl
 one_more false n rest e = let h : ⊥ = cc in absurd h
 
-having_all : (kinds : List (List ℕ)) (n : ℕ) → All HasObject kinds → having (0 ∷ []) n kinds ≡ numbers_from n (length kinds)
-having_all [] n all = refl
-having_all (k ∷ kinds) n all =
-    one_more (meets (0 ∷ []) k) n (having (0 ∷ []) (n + 1) kinds) (All-head HasObject k kinds all)
-    ∙ ap (λ r. n ∷ r) (having_all kinds (n + 1) (All-tail HasObject k kinds all))
+or_first : (a b : Bool) → (a || false) ≡ true → (a || b) ≡ true
+or_first true b h = refl
+or_first false b h = absurd (false≢true h)
+
+and_first : (a b : Bool) → (a && b) ≡ true → a ≡ true
+and_first true b h = refl
+and_first false b h = h
+
+-- who has the type `object` has each of the types that are all `object`
+top_met : (types kinds : List ℕ) → IsObjectType types → HasObject kinds → meets types kinds ≡ true
+top_met [] kinds t h = absurd (false≢true t)
+top_met (zero ∷ others) kinds t h = or_first (member 0 kinds) (meets others kinds) h
+top_met (suc n ∷ others) kinds t h =
+    let zero_too : suc n ≡ 0 = (Decides-eqb (suc n) 0).0 (and_first (suc n == 0) (list_all (λ m. m == 0) others) t) in
+    absurd (omega arith)
+
+having_all : (types : List ℕ) (kinds : List (List ℕ)) (n : ℕ) → IsObjectType types → All HasObject kinds → having types n kinds ≡ numbers_from n (length kinds)
+having_all types [] n t all = refl
+having_all types (k ∷ kinds) n t all =
+    one_more (meets types k) n (having types (n + 1) kinds) (top_met types k t (All-head HasObject k kinds all))
+    ∙ ap (λ r. n ∷ r) (having_all types kinds (n + 1) t (All-tail HasObject k kinds all))
 
 having_top : (task : TypedTask) (types : List ℕ) → HaveTopType task → IsObjectType types → having types 0 (kinds_of task) ≡ numbers_from 0 (length task.objects)
-having_top task types top e = rw e (having_all (kinds_of task) 0 top ∙ ap (numbers_from 0) (length-map task.objects (λ o. flat_map (ancestors (parents_of task) (length task.types)) o.types)))
+having_top task types top t = having_all types (kinds_of task) 0 t top ∙ ap (numbers_from 0) (length-map task.objects (λ o. flat_map (ancestors (parents_of task) (length task.types)) o.types))
 
 extended_is : (kinds : List (List ℕ)) (types : List ℕ) (others : List (List ℕ)) (objects : List ℕ) (fronts : List (List ℕ)) → having types 0 kinds ≡ objects → flat_map (bindings kinds others) (extended objects fronts) ≡ flat_map (bindings kinds (types ∷ others)) fronts
 extended_is kinds types others objects [] e = refl

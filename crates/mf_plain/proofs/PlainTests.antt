@@ -1,15 +1,15 @@
 -- The test of a plain task decides whether it is plain.
-use Rattle.std.proofs.Common.{◌≡◌, ℕ, ◌≤◌, Bool, true, List, [], ◌∷◌, length, Option, Some, None, All, refl, ap, ◌&&◌, nat_le, get_or}
+use Rattle.std.proofs.Common.{◌≡◌, ℕ, ◌≤◌, Bool, true, List, [], ◌∷◌, length, Option, Some, None, All, refl, ap, ◌&&◌, nat_le}
 use Rattle.std.specs.Bool.{Decides}
 use Rattle.std.specs.List.{list_all}
 use Rattle.std.proofs.lemmas.Bool.{false≢true, leb-true, le-leb}
-use Rattle.std.proofs.lemmas.Bool.Decides.{Decides-and, Decides-like, Decides-eqb, Decides-by_and}
+use Rattle.std.proofs.lemmas.Bool.Decides.{Decides-and, Decides-like, Decides-by_and}
 use Rattle.mf_model.specs.declared.task.Symbol.{Symbol}
 use Rattle.mf_model.specs.declared.task.Action.{Action}
 use Rattle.mf_model.specs.declared.task.TypedTask.{TypedTask}
-use Rattle.mf_model.specs.Plain.{is_plain_cond, is_plain_effect, is_plain_fact, IsObjectType, IsPlainSymbol, IsPlainAction}
-use Rattle.mf_plain.specs.PlainTask.{IsPlainTask}
-use Rattle.mf_plain.specs.PlainTest.{is_nil, is_absent, is_object_type, are_plain_parameters, is_plain_symbol, is_plain_action, are_plain_names, is_within_limits, is_plain_start, is_plain_end, is_plain_task}
+use Rattle.mf_model.specs.Plain.{is_plain_cond, is_plain_effect, is_plain_fact}
+use Rattle.mf_plain.specs.PlainTask.{IsObjectType, IsPlainAction, IsPlainSymbol, IsPlainTask, is_object_type}
+use Rattle.mf_plain.specs.PlainTest.{is_nil, is_absent, are_plain_parameters, is_plain_symbol, is_plain_action, are_plain_names, is_within_limits, is_plain_start, is_plain_end, is_plain_task}
 
 itself : (b : Bool) → Decides b (b ≡ true)
 itself b = (λ h. h, λ h. h)
@@ -31,9 +31,7 @@ absent (Some x) = (λ h. absurd (false≢true h), λ h. absurd (false≢true (ap
 -- the parts
 
 object_type : (types : List ℕ) → Decides (is_object_type types) (IsObjectType types)
-object_type [] = (λ h. absurd (false≢true h), λ h. absurd (false≢true (ap is_object_type h)))
-object_type (n ∷ []) = Decides-like (is_object_type (n ∷ [])) (λ h. ap (λ k. k ∷ []) h) (λ h. ap (λ ns. get_or ns 0 0) h) (Decides-eqb n 0)
-object_type (n ∷ m ∷ ns) = (λ h. absurd (false≢true h), λ h. absurd (false≢true (ap is_object_type h)))
+object_type types = itself (is_object_type types)
 
 parameters : (types : List (List ℕ)) → Decides (are_plain_parameters types) (All IsObjectType types × (length types ≤ 32))
 parameters types = Decides-and (list_all is_object_type types) (nat_le (length types) 32) (all_pass is_object_type IsObjectType object_type types) (within (length types) 32)

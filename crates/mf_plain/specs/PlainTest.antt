@@ -1,10 +1,11 @@
 -- Whether a task is plain, tested part by part.
-use Rattle.std.specs.Prelude.{ℕ, Bool, true, false, ◌&&◌, ◌==◌, nat_le, List, [], ◌∷◌, length, Option, Some, None}
+use Rattle.std.specs.Prelude.{ℕ, Bool, true, false, ◌&&◌, nat_le, List, [], ◌∷◌, length, Option, Some, None}
 use Rattle.std.specs.List.{list_all}
 use Rattle.mf_model.specs.declared.task.Symbol.{Symbol}
 use Rattle.mf_model.specs.declared.task.Action.{Action}
 use Rattle.mf_model.specs.declared.task.TypedTask.{TypedTask}
 use Rattle.mf_model.specs.Plain.{is_plain_cond, is_plain_effect, is_plain_fact}
+use Rattle.mf_plain.specs.PlainTask.{is_object_type}
 
 abbrev pub is_nil : {A : Type 0} → List A → Bool
 is_nil [] = true
@@ -13,11 +14,6 @@ is_nil (x ∷ xs) = false
 abbrev pub is_absent : {A : Type 0} → Option A → Bool
 is_absent None = true
 is_absent (Some x) = false
-
-abbrev pub is_object_type : List ℕ → Bool
-is_object_type [] = false
-is_object_type (n ∷ []) = n == 0
-is_object_type (n ∷ m ∷ ns) = false
 
 abbrev pub are_plain_parameters : List (List ℕ) → Bool
 are_plain_parameters parameters = list_all is_object_type parameters && nat_le (length parameters) 32

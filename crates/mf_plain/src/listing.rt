@@ -1,8 +1,7 @@
 ghost use Rattle.std.specs.Prelude.{◌≡◌, [], ◌++◌, IfOk, OnOk, All};
 ghost use Rattle.mf_model.specs.Application.{instances_of};
 ghost use Rattle.mf_model.specs.Objects.{HaveTopType, bindings, kinds_of};
-ghost use Rattle.mf_model.specs.Plain.{IsObjectType};
-ghost use Rattle.mf_plain.specs.PlainTask.{IsPlainTask};
+ghost use Rattle.mf_plain.specs.PlainTask.{IsObjectType, IsPlainTask};
 ghost use Rattle.mf_plain.specs.Listing.{numbers_from, with_next, extended, of_action};
 
 use crate::Memory;

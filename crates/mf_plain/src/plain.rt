@@ -1,24 +1,31 @@
-ghost use Rattle.std.specs.Prelude.{◌≡◌, slice_get};
+ghost use Rattle.std.specs.Prelude.{◌≡◌, ◌==◌, slice_get};
 ghost use Rattle.std.specs.Bool.{Decides};
 ghost use Rattle.std.specs.List.{list_all};
 ghost use Rattle.mf_model.specs.Plain as plain;
+ghost use Rattle.mf_plain.specs.PlainTask as spec;
 ghost use Rattle.mf_plain.specs.PlainTask.{IsPlainTask};
 ghost use Rattle.mf_plain.specs.PlainTest as test;
 
 use mf_model::{Action, Atom, Cond, Effect, Symbol, Term, TypedTask, Types};
 
-// Whether the one type is `object`.
+// Whether every type is `object`, and there is one.
 fn is_object_type(types: &[u16]) -> bool
-    ensures { result ≡ test.is_object_type types.now }
+    ensures { result ≡ spec.is_object_type types.now }
 {
     match types {
-        [number] => *number == 0,
-        _ => false,
+        [first, others @ ..] => *first == 0 && are_object(others),
+        [] => false,
     }
 }
 
+fn are_object(types: &[u16]) -> bool
+    ensures { result ≡ list_all (λ number. number == 0) types.now }
+{
+    types.iter().all(|number| *number == 0)
+}
+
 fn are_object_types(parameters: &[Types]) -> bool
-    ensures { result ≡ list_all test.is_object_type parameters.now }
+    ensures { result ≡ list_all spec.is_object_type parameters.now }
 {
     parameters
         .iter()

@@ -10,7 +10,7 @@ const ROOMS: &str = "(define (domain rooms)
   :effect (and (at-robot ?b) (not (at-robot ?a))))
  (:action pick :parameters (?b ?r) :precondition (and (ball ?b) (room ?r) (at ?b ?r) (at-robot ?r) (free))
   :effect (and (holding ?b) (not (at ?b ?r)) (not (free))))
- (:action drop :parameters (?b ?r) :precondition (and (ball ?b) (room ?r) (holding ?b) (at-robot ?r))
+ (:action drop :parameters (?b - object ?r - (either object object)) :precondition (and (ball ?b) (room ?r) (holding ?b) (at-robot ?r))
   :effect (and (at ?b ?r) (free) (not (holding ?b)))))";
 
 const ROOMS_INIT: &str =
