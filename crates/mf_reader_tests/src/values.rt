@@ -61,3 +61,23 @@ fn missing_sections_are_empty(rt: HostRuntime) {
     assert!(rt; domain_sizes(alloc, b"(define (domain d))") == Some([0; 5]));
     assert!(rt; problem_sizes(alloc, bare) == Some(([0; 3], false)));
 }
+
+fn is_named(alloc: Global, source: &[u8], name: &[u8]) -> bool {
+    match domain(alloc, source) {
+        Some(Ok(domain)) => domain.name.as_slice() == name,
+        _ => false,
+    }
+}
+
+#[test]
+fn names_are_in_small_letters(rt: HostRuntime) {
+    let alloc = rt.alloc();
+    assert!(rt; is_named(alloc, b"(define (domain Depots))", b"depots"));
+    assert!(rt;
+        is_named(
+            alloc,
+            b"(define (domain Depots-Of-Two-Cities))",
+            b"depots-of-two-cities"
+        )
+    );
+}
