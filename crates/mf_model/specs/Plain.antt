@@ -1,6 +1,6 @@
 -- The parts of plain tasks: conditions that are atoms or conjunctions of atoms, and effects that add and
 -- delete atoms (the STRIPS fragment of PDDL 2.1: Fox and Long, JAIR 2003, section 2).
-use Rattle.std.specs.Prelude.{◌≡◌, ℕ, ◌≤◌, Bool, true, false, ◌&&◌, IsTrue, List, [], ◌∷◌, length, Option, Some, None, slice_get, nat_lt, nat_eq, All}
+use Rattle.std.specs.Prelude.{ℕ, Bool, true, false, ◌&&◌, IsTrue, List, [], ◌∷◌, length, Option, Some, None, slice_get, nat_lt, nat_eq}
 use Rattle.mf_model.specs.declared.task.Term.{Term}
 use Rattle.mf_model.specs.declared.task.Term.TheVariants.{Variable, Object}
 use Rattle.mf_model.specs.declared.task.Cond.{Cond, fold-Cond}
@@ -8,7 +8,6 @@ use Rattle.mf_model.specs.declared.task.Cond.TheOpen.{Cond-F}
 use Rattle.mf_model.specs.declared.task.Effect.{Effect, fold-Effect}
 use Rattle.mf_model.specs.declared.task.Effect.TheOpen.{Effect-F}
 use Rattle.mf_model.specs.declared.task.Symbol.{Symbol}
-use Rattle.mf_model.specs.declared.task.Action.{Action}
 use Rattle.mf_model.specs.declared.task.Atom.{Atom}
 
 -- every test of a list
@@ -56,20 +55,6 @@ plain_effect_step predicates variables objects _ = false
 
 abbrev pub is_plain_effect : List Symbol → (variables objects : ℕ) → Effect → Bool
 is_plain_effect predicates variables objects = fold-Effect Bool (plain_effect_step predicates variables objects)
-
--- the one declared type of each parameter of a plain task
-abbrev pub IsObjectType : List ℕ → Type 0
-IsObjectType types = types ≡ 0 ∷ []
-
-pub record IsPlainSymbol (symbol : Symbol) : Type 0 where
-  pub types : All IsObjectType symbol.parameters
-  pub limit : length symbol.parameters ≤ 32
-
-pub record IsPlainAction (predicates : List Symbol) (objects : ℕ) (action : Action) : Type 0 where
-  pub types : All IsObjectType action.parameters
-  pub limit : length action.parameters ≤ 32
-  pub condition : IsTrue (is_plain_cond predicates (length action.parameters) objects action.condition)
-  pub effect : IsTrue (is_plain_effect predicates (length action.parameters) objects action.effect)
 
 -- an atom without variables over declared predicates and objects
 abbrev pub is_plain_fact : List Symbol → (objects : ℕ) → Atom → Bool

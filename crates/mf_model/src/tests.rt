@@ -46,5 +46,9 @@ fn texts_grow(rt: HostRuntime) -> Result<(), Fail> {
     assert_eq!(rt; text.as_slice(), b"planner of tasks".as_slice());
     assert_eq!(rt; text.copy(alloc)?, text);
     assert!(rt; Text::new(alloc).is_empty());
+    assert!(rt; Text::with_capacity(alloc, 9)?.is_empty());
+    let mut roomy = Text::with_capacity(alloc, 300)?;
+    roomy.push(b'a')?;
+    assert_eq!(rt; roomy.as_slice(), b"a".as_slice());
     Ok(())
 }
