@@ -1,11 +1,9 @@
 -- What the checked operations answer, by the size of the parts.
-use Rattle.std.proofs.Common.{◌≡◌, ℕ, zero, suc, ◌<◌, ◌≤◌, ◌^◌, ℤ, pos, negsuc, unsigned_abs, Bool, true, false, cond, int_lt, int_div, ◌/◌, Option, Some, None, Ok, Err, refl, ap, ◌∙◌, sym, subst, arith, rules, tests, FitsSigned, to_z, of_z, to_z-of_z, w64}
+use Rattle.std.proofs.Common.{◌≡◌, ℕ, zero, suc, ◌<◌, ◌≤◌, ◌^◌, ℤ, pos, negsuc, unsigned_abs, Bool, true, false, int_lt, int_div, ◌/◌, Ok, Err, refl, ap, ◌∙◌, sym, subst, arith, rules, tests, FitsSigned, to_z, of_z, to_z-of_z, w64}
 use Rattle.std.specs.Int.{w128}
 use Rattle.std.proofs.lemmas.Int.{fits_signed_from_abs}
 use Rattle.std.proofs.lemmas.Bool.Decides.{nat_tests}
-use Rattle.mf_fraction.specs.Checked.{checked, checked_quotient, wide}
-use Rattle.mf_fraction.specs.declared.faults.Wide.{Wide}
-use Rattle.mf_fraction.specs.declared.faults.DivFault.TheVariants as fault
+use Rattle.mf_fraction.specs.Checked.{checked, wide}
 use Rattle.mf_fraction.specs.Exact.{Number, fits, reduce}
 use Rattle.mf_fraction.specs.Gcd.{gcd}
 use Rattle.mf_fraction.specs.Kept.{Kept}
@@ -16,32 +14,6 @@ use Rattle.mf_fraction.specs.Parts.{with_sign}
 pub fits_small : (a : Number) → unsigned_abs a.num ≤ 2 ^ 62 → a.den ≤ 2 ^ 62 → fits a ≡ true
 unfolding fits
 fits_small a p q = search (rules, tests)
-
--- a stored answer is the exact result, and it fits
-pub checked_ok-is : (a x : Number) → checked a ≡ Ok x → (x ≡ a) × (fits a ≡ true)
-unfolding checked
-checked_ok-is a x e = by (fits a) refl e
-  where
-    by : (b : Bool) → fits a ≡ b → cond b (Ok a) (Err wide) ≡ Ok x → (x ≡ a) × (fits a ≡ true)
-    by true f h = (cc, f)
-    by false f h = cc
-
-pub checked_err-is : (a : Number) (w : Wide) → checked a ≡ Err w → fits a ≡ false
-unfolding checked
-checked_err-is a w e = by (fits a) refl e
-  where
-    by : (b : Bool) → fits a ≡ b → cond b (Ok a) (Err wide) ≡ Err w → fits a ≡ false
-    by true f h = cc
-    by false f h = f
-
-pub checked_quotient_ok-is : (q : Option Number) (x : Number) → checked_quotient q ≡ Ok x → (q ≡ Some x) × (fits x ≡ true)
-unfolding checked_quotient
-checked_quotient_ok-is None x e = cc
-checked_quotient_ok-is (Some a) x e = by (fits a) refl e
-  where
-    by : (b : Bool) → fits a ≡ b → cond b (Ok a) (Err fault.Wide) ≡ Ok x → (Some a ≡ Some x) × (fits x ≡ true)
-    by true f h = let is : a ≡ x = cc in (ap Some is, ap fits (sym is) ∙ f)
-    by false f h = cc
 
 pub checked-fits : (a : Number) → unsigned_abs a.num ≤ 2 ^ 62 → a.den ≤ 2 ^ 62 → checked a ≡ Ok a
 unfolding checked fits

@@ -116,9 +116,6 @@ pub size_some : (front back : List ℕ) (n : ℕ) (r : Option ℕ) → Some n �
 size_some front back n r e f =
     f ∙ ap (λ (k : ℕ). within (continued k back)) ((within-some n (continued 0 front) e).0 ∙ omega arith) ∙ ap within (sym (digits_value-append front back))
 
-pub size_small : (n k : ℕ) → Some n ≡ within k → n ≤ 2 ^ 62 * 10 ^ 18
-size_small n k e = let p = within-some n k e in omega arith
-
 -- ---- the value of both parts
 value_ok : (a x : Number) → Ok x ≡ checked a → Ok x ≡ checked_value a
 unfolding checked checked_value

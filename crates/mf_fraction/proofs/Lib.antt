@@ -4,7 +4,6 @@ pub mod Comparisons
 pub mod DecimalValues
 pub mod Decimals
 pub mod Divisors
-pub mod Equality
 pub mod Operations
 pub mod Monotone
 pub mod OrderLaws

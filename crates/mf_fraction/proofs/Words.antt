@@ -1,5 +1,5 @@
 -- The parts of a decimal word, as the code finds them.
-use Rattle.std.proofs.Common.{◌≡◌, ℕ, ◌+◌, ◌<◌, ◌≤◌, List, [], ◌∷◌, length, get_or, take, drop, Bool, true, false, cond, not, ◌&&◌, ◌||◌, Option, Some, None, unwrap_or, Err, if◌then◌else◌, refl, sym, ap, ap₂, ◌∙◌, arith, eq-eqb, ne_eqb, ltb, ltb-false}
+use Rattle.std.proofs.Common.{◌≡◌, ℕ, ◌+◌, ◌<◌, List, [], ◌∷◌, length, get_or, take, drop, Bool, true, false, cond, not, ◌&&◌, ◌||◌, Option, Some, None, unwrap_or, Err, if◌then◌else◌, refl, sym, ap, ap₂, ◌∙◌, arith, eq-eqb, ne_eqb, ltb, ltb-false}
 use Rattle.std.specs.List.{position, position_or_len}
 use Rattle.std.proofs.lemmas.List.Sums.{prefix_len-le-length}
 use Rattle.mf_fraction.specs.declared.faults.NumberFault.TheVariants as fault
@@ -12,9 +12,6 @@ place_is bs o r e f =
     by : (t : Bool) → ltb (position_or_len is_point bs) (length bs) ≡ t → unwrap_or (cond t (Some (position_or_len is_point bs)) None) (length bs) ≡ position_or_len is_point bs
     by true h = refl
     by false h = omega (arith, ltb-false (position_or_len is_point bs) (length bs) h, prefix_len-le-length (λ (x : ℕ). not (is_point x)) bs)
-
-pub place_within : (bs : List ℕ) → position_or_len is_point bs ≤ length bs
-place_within bs = prefix_len-le-length (λ (x : ℕ). not (is_point x)) bs
 
 pub minus_word : (w : List ℕ) → 0 < length w → get_or w 0 0 ≡ 45 → read_unsigned true (drop 1 w) ≡ read_of w
 unfolding read_of

@@ -1,4 +1,4 @@
-ghost use Rattle.mf_fraction.specs.Decimal.{has_minus, without_minus, is_digits, is_point, places, digits_value, read_parts, read_unsigned, read_of};
+ghost use Rattle.mf_fraction.specs.Decimal.{is_digits, is_point, places, digits_value, read_parts, read_unsigned, read_of};
 ghost use Rattle.mf_fraction.specs.Within.{within, continued};
 ghost use Rattle.std.specs.Char.{is_ascii_digit};
 ghost use Rattle.std.specs.List.{list_all, position, position_or_len};

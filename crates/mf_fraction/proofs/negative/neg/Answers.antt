@@ -1,4 +1,4 @@
-use Rattle.std.proofs.Common.{true, subst, rules, tests, arith, sym, to_z-of_z, FitsSigned, to_z, of_z, w64, ap, ◌∙◌, ◌≡◌, ℕ, ◌≤◌, ◌^◌, unsigned_abs, ℤ, pos, ◌-ℤ◌, neg_ℤ}
+use Rattle.std.proofs.Common.{true, subst, rules, tests, arith, sym, to_z-of_z, to_z, of_z, w64, ap, ◌∙◌, ◌≡◌, ℕ, ◌≤◌, ◌^◌, unsigned_abs, ℤ, pos, ◌-ℤ◌, neg_ℤ}
 use Rattle.std.proofs.lemmas.Int.{ints, fits_signed_from_abs}
 use Rattle.mf_fraction.specs.Exact.{fits, negative_of, Number}
 use Rattle.mf_fraction.proofs.Reduced.{number}
