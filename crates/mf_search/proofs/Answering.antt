@@ -1,15 +1,14 @@
 -- What the answers of legal histories say: a plan leads to a goal, and no plan means that nothing does.
-use Rattle.std.proofs.Common.{◌≡◌, ℕ, zero, suc, ◌<◌, ◌⊎◌, ◌++◌, Bool, true, false, cond, List, [], ◌∷◌, Option, Some, None, Contains, length, refl, sym, ap, ◌∙◌, inl, inr, ⊎_elim, subst, arith}
+use Rattle.std.proofs.Common.{◌≡◌, ℕ, zero, suc, ◌<◌, ◌⊎◌, ◌++◌, Bool, true, false, cond, List, [], ◌∷◌, Option, Some, None, Contains, length, refl, sym, ap, ◌∙◌, inl, inr, subst, arith}
 use Rattle.mf_search.specs.declared.entry.Entry.{Entry}
 use Rattle.mf_search.specs.declared.status.Status.{Status}
 use Rattle.mf_search.specs.declared.status.Status.TheVariants.{Running, Plan, NoPlan, Budget, Width, Halted}
 use Rattle.mf_search.specs.Space.{Child, Space, children_of}
-use Rattle.mf_search.specs.World.{Opened, Going, World, WasOpened, IsOpen, at, MayTake, May, Legal, world}
+use Rattle.mf_search.specs.World.{Opened, Going, World, WasOpened, at, MayTake, May, Legal, world}
 use Rattle.mf_search.specs.declared.entry.Entry.TheVariants.{Take, Done, Wide}
 use Rattle.mf_search.specs.Greedy.{Expanded}
 use Rattle.mf_search.specs.Answers.{AllIdle, Answers, Ended, IsStatus, Walk, IsPlanFrom, LeadsToGoal, InfiniteIsDead, IsClosed, with_step, trace, plan_to}
 use Rattle.std.proofs.lemmas.Bool.{true≢false, false≢true}
-use Rattle.mf_search.proofs.Candidates.{in_or_out}
 use Rattle.mf_search.proofs.Members.{no_some}
 use Rattle.mf_search.proofs.Sound.{IsDone, IsStart, MadeByDone, Sound, legal_sound}
 use Rattle.mf_search.proofs.Rebuilding.{within_itself, done_expanded}
@@ -123,33 +122,6 @@ ended_stops {S} sp budget workers w e ended may = go ended.0 ended.1
     go Budget h = idle_stops sp budget workers w e h.1 (λ worker i m. let a = m.in_budget in let b = h.2 in omega arith) may
     go Running h = h
     go Halted h = h
-
--- Where a worker has a state in expansion, or a state may be taken yet, a search that goes on has no answer.
-pub running_busy : {S : Type 0} (budget : ℕ) (w : World S) (worker i : ℕ) → w.ending ≡ Going → w.busy worker ≡ Some i → Ended budget w → ⊥
-running_busy {S} budget w worker i going busy ended = go ended.0 ended.1
-  where
-    go : (a : Status) → Answers budget w a → ⊥
-    go (Plan j) h = let g = going in absurd (cc)
-    go (Width j n) h = let g = going in absurd (cc)
-    go NoPlan h = no_some i (sym (h.1 worker) ∙ busy)
-    go Budget h = no_some i (sym (h.1 worker) ∙ busy)
-    go Running h = h
-    go Halted h = h
-
-pub running_open : {S : Type 0} (budget : ℕ) (w : World S) (i : ℕ) → w.ending ≡ Going → IsOpen w i → length w.taken < budget → Ended budget w → ⊥
-running_open {S} budget w i going is_open few ended = go ended.0 ended.1
-  where
-    go : (a : Status) → Answers budget w a → ⊥
-    go (Plan j) h = let g = going in absurd (cc)
-    go (Width j n) h = let g = going in absurd (cc)
-    go NoPlan h = is_open.1 (h.2 i is_open.0)
-    go Budget h = let a = few in let b = h.2 in omega arith
-    go Running h = h
-    go Halted h = h
-
--- Where no state is open, each opened one was taken.
-pub all_taken : {S : Type 0} (w : World S) → ((i : ℕ) → IsOpen w i → ⊥) → (i : ℕ) → i < length w.opened → Contains w.taken i
-all_taken w none i low = ⊎_elim (λ h. h) (λ out. absurd (none i (low, out))) (in_or_out w.taken i)
 
 status_answer : {S : Type 0} (budget : ℕ) (w : World S) (halted : Bool) (a : Status) → IsStatus budget w halted a → Answers budget w a ⊎ ((a ≡ cond halted Halted Running) × (Ended budget w → ⊥))
 status_answer budget w true Running h = absurd (true≢false h.0)

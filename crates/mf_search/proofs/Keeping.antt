@@ -74,9 +74,6 @@ columns_take {S} os taken states values makers flags i low c = record {
         (λ h. Contains-append_left taken (i ∷ []) k ((c.flags_are k l).0 h), λ h. (c.flags_are k l).1 (⊎_elim (λ a. a) (λ (e : i ≡ k). absurd (other (sym e))) (Contains-push_cases taken i k h)))
 
 -- The search of the first n opened states for the open one of least key, one state more.
-pub least_none : {S : Type 0} (sp : Space S) (os : List (Opened S)) (taken : List ℕ) → IsLeastOpen sp os taken 0 None
-least_none sp os taken j h = absurd (omega arith)
-
 pub least_closed : {S : Type 0} (sp : Space S) (os : List (Opened S)) (taken : List ℕ) (n : ℕ) (best : Option ℕ) → Contains taken n → IsLeastOpen sp os taken n best → IsLeastOpen sp os taken (n + 1) best
 least_closed sp os taken n None h least = λ j low. ⊎_elim (least j) (λ l. let same : n ≡ j = omega arith in subst (λ t. Contains taken t) same h) (cases_lt j n)
 least_closed {S} sp os taken n (Some i) h least = ((let l = least.0 in omega arith), least.1, λ j low out. ⊎_elim (λ l. least.2 j l out) (λ l. let same : n ≡ j = omega arith in absurd (out (subst (λ t. Contains taken t) same h))) (cases_lt j n))

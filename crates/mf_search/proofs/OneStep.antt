@@ -1,5 +1,5 @@
 -- Histories and worlds one entry at a time, and opened states one child at a time.
-use Rattle.std.proofs.Common.{◌≡◌, ◌≢◌, ℕ, ◌≤◌, ◌++◌, Bool, true, false, eqb, List, [], ◌∷◌, Some, None, length, take, drop, refl, sym, ap, ◌∙◌, subst, arith, append_assoc, append-nil, take-append-drop}
+use Rattle.std.proofs.Common.{◌≡◌, ◌≢◌, ℕ, ◌≤◌, ◌++◌, Bool, true, false, eqb, List, [], ◌∷◌, Some, None, length, refl, sym, ap, ◌∙◌, arith, append_assoc, append-nil}
 use Rattle.std.proofs.lemmas.List.{length_push}
 use Rattle.std.proofs.lemmas.Bool.{eq-eqb, ne_eqb, false_from_ne_true}
 use Rattle.mf_search.specs.declared.entry.Entry.{Entry}
@@ -35,9 +35,6 @@ world_push sp entries e = after_append sp (begin sp) entries (e ∷ [])
 -- A front of a legal history is legal.
 pub legal_front : {S : Type 0} (sp : Space S) (budget workers : ℕ) (front rest : List Entry) → Legal sp budget workers (front ++ rest) → Legal sp budget workers front
 legal_front sp budget workers front rest legal = (legal_parts sp budget workers (begin sp) front rest legal).0
-
-pub legal_take : {S : Type 0} (sp : Space S) (budget workers : ℕ) (entries : List Entry) (n : ℕ) → Legal sp budget workers entries → Legal sp budget workers (take n entries)
-legal_take sp budget workers entries n legal = legal_front sp budget workers (take n entries) (drop n entries) (subst (Legal sp budget workers) (sym (take-append-drop n entries)) legal)
 
 -- The world after each kind of entry.
 pub next_goal : {S : Type 0} (sp : Space S) (w : World S) (worker i : ℕ) → (at sp w.opened i).value ≡ 0 → next sp w (Take worker i) ≡ record w { taken = w.taken ++ i ∷ []; ending = AtGoal i }

@@ -26,15 +26,9 @@ pub record World (S : Type 0) : Type 0 where
   pub busy : ℕ → Option ℕ
   pub ending : Ending
 
--- The states that were opened, in the order of their numbers, with their values and makers.
+-- The states that were opened, in the order of their numbers.
 abbrev pub opened_states : {S : Type 0} → World S → List S
 opened_states w = map (λ o. o.state) w.opened
-
-abbrev pub opened_values : {S : Type 0} → World S → List ℕ
-opened_values w = map (λ o. o.value) w.opened
-
-abbrev pub opened_makers : {S : Type 0} → World S → List Maker
-opened_makers w = map (λ o. o.maker) w.opened
 
 -- The opened state of number i. (Past the end: the start, as a goal. No legal entry names it.)
 abbrev pub at : {S : Type 0} → Space S → List (Opened S) → ℕ → Opened S
