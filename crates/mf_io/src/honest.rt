@@ -77,7 +77,7 @@ impl HonestSink {
 }
 
 impl Sink for HonestSink {
-    ghost use Rattle.std.specs.Prelude.{◌≡◌, ◌≢◌, ◌++◌, ◌<◌, OnOk, IfOk, Some, Err, length};
+    ghost use Rattle.std.specs.Prelude.{◌≡◌, ◌≢◌, ◌<◌, IfOk, Some, Err, length};
     ghost use Rattle.mf_io.specs.Sink.{Puts};
 
     ghost written = { λ sink. Some sink.bytes };
