@@ -31,10 +31,6 @@ pub word_not_bad : (b : ℕ) → is_word b ≡ true → is_bad b ≡ false
 unfolding is_bad is_word is_bracket is_blank
 word_not_bad b h = grind (arith, nat_tests)
 
-pub bad_not_word : (b : ℕ) → is_bad b ≡ true → is_word b ≡ false
-unfolding is_bad is_word is_bracket is_blank
-bad_not_word b h = grind (arith, nat_tests)
-
 -- none of these begins a comment
 
 pub blank_plain : (b : ℕ) → is_blank b ≡ true → in_comment false b ≡ false
@@ -52,10 +48,6 @@ word_plain b h = grind (arith, nat_tests)
 pub bad_plain : (b : ℕ) → is_bad b ≡ true → in_comment false b ≡ false
 unfolding is_bad in_comment is_blank
 bad_plain b h = grind (arith, nat_tests)
-
-pub plain_unless_comment : (b : ℕ) → is_word b ≡ false → (b ≡ 59 → ⊥) → in_comment false b ≡ false
-unfolding in_comment
-plain_unless_comment b h k = grind (arith, nat_tests)
 
 -- a comment, from its first byte up to the byte 10
 

@@ -1,6 +1,6 @@
 -- What is known of the tokens so far goes on behind each gap and each token.
 use Rattle.std.proofs.Common.{◌≡◌, ℕ, ◌+◌, ◌-◌, ◌<◌, ◌≤◌, true, false, List, [], ◌∷◌, ◌++◌, length, get_or, sym, refl, ap, ◌∙◌, subst, inl, inr, append_assoc, arith}
-use Rattle.std.proofs.lemmas.Bool.{cases_lt, false_from_ne_true, false≢true}
+use Rattle.std.proofs.lemmas.Bool.{cases_lt, false≢true}
 use Rattle.std.proofs.lemmas.List.{append-nil}
 use Rattle.mf_model.specs.declared.token.Token.{Token}
 use Rattle.mf_model.specs.Tokens.{is_word, is_bracket, is_blank, is_bad, without_comments, AreBlank, AreTokensFrom, IsTokens, IsTokenAt, IsBracketAt, IsWordAt, BadByteAt, TooLongAt}
@@ -110,16 +110,6 @@ next_reads s at list t reading next = record {
   ];
   uncommented = next.uncommented;
   edge = token_edge s t next.placed;
-}
-
--- a long word
-
-pub long_fault : (s : List ℕ) (at : ℕ) (list : List Token) → Reading s at list → ((i : ℕ) → i ≤ 255 → is_word (get_or (without_comments s) (at + i) 0) ≡ true) → TooLongAt s at
-long_fault s at list reading long = record {
-  begins = λ k is. false_from_ne_true _ (λ h.
-      let here : is_word (get_or (without_comments s) at 0) ≡ true = subst (λ (i : ℕ). is_word (get_or (without_comments s) i 0) ≡ true) (omega arith) (long 0 (omega arith)) in
-      false≢true (sym (reading.edge k is h) ∙ here));
-  long = long;
 }
 
 -- the end of the file

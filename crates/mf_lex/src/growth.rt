@@ -1,8 +1,6 @@
-ghost use Rattle.std.specs.Prelude.{◌≡◌, ◌<◌, ◌≤◌, [], ◌∷◌, ◌++◌, ◌≢◌, map, reverse, length, IfOk, OnOk, OnErr};
+ghost use Rattle.std.specs.Prelude.{◌≡◌, [], map, reverse, IfOk, OnOk};
 ghost use Rattle.std.specs.List.{All};
 ghost use Rattle.std.specs.Char.{to_ascii_lowercase};
-ghost use Rattle.mf_model.specs.Tokens.{text_of};
-ghost use Rattle.mf_model.specs.declared.token.Kind.TheVariants.{Left, Right};
 ghost use Rattle.mf_lex.specs.Growth.{Gives, InFile, Makes, alone, closed, close_step, grow, leaf_of, open_step, opened, step_of, tree_of, with_item};
 
 use crate::fault::TreeFault;

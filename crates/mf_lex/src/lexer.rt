@@ -1,4 +1,4 @@
-ghost use Rattle.std.specs.Prelude.{◌≡◌, [], ◌∷◌, ◌++◌, ◌≢◌, ◌+◌, ℕ, ◌<◌, ◌≤◌, true, false, length, slice_index, IfOk, IfErr};
+ghost use Rattle.std.specs.Prelude.{◌≡◌, ◌≢◌, ◌+◌, ℕ, ◌<◌, ◌≤◌, true, false, length, slice_index, IfOk, IfErr};
 ghost use Rattle.mf_model.specs.Tokens.{is_word, kind_of, text_of, IsTokens};
 ghost use Rattle.mf_lex.specs.Reading.{IsUncommented, Reading, Finds, Steps, IsLexFault, NoTokens};
 
