@@ -5,6 +5,7 @@ pub mod Steps
 pub mod Unique
 pub mod Folds
 pub mod Counts
+pub mod WordKinds
 pub mod OneByte
 pub mod Growing
 pub mod Whole

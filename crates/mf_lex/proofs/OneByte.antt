@@ -1,58 +1,13 @@
 -- A token of kind Left or Right is one byte.
-use Rattle.std.proofs.Common.{◌≡◌, ℕ, ◌+◌, ◌-◌, Bool, true, false, List, [], ◌∷◌, length, drop, sym, refl, ◌∙◌, inl, inr, arith}
-use Rattle.std.specs.Prelude.{if◌then◌else◌, ◌⊎◌, slice_range}
+use Rattle.std.proofs.Common.{◌≡◌, ℕ, ◌+◌, ◌-◌, true, List, [], ◌∷◌, length, drop, sym, refl, ◌∙◌, inl, inr, arith}
+use Rattle.std.specs.Prelude.{◌⊎◌, slice_range}
 use Rattle.std.specs.Char.{to_ascii_lowercase}
 use Rattle.std.proofs.lemmas.List.{length-map, length-take-le, length-drop}
 use Rattle.mf_model.specs.declared.token.Token.{Token}
-use Rattle.mf_model.specs.declared.token.Kind.{Kind}
-use Rattle.mf_model.specs.declared.token.Kind.TheVariants.{Left, Right, Name, Variable, Keyword, Number, Sign, Plain}
-use Rattle.mf_model.specs.Tokens.{is_only, is_name, is_name_behind, is_number, is_sign, kind_of, text_of, IsTokenAt}
+use Rattle.mf_model.specs.declared.token.Kind.TheVariants.{Left, Right}
+use Rattle.mf_model.specs.Tokens.{is_only, text_of, IsTokenAt}
+use Rattle.mf_lex.proofs.WordKinds.{left_text, right_text}
 use Rattle.mf_lex.proofs.Unique.{ends_within}
-
--- the chain of tests from the second on
-
-abbrev word_kind : Bool → Bool → Bool → Bool → Bool → Kind
-word_kind name variable keyword number sign =
-    if name then Name
-    else (if variable then Variable
-    else (if keyword then Keyword
-    else (if number then Number
-    else (if sign then Sign
-    else Plain))))
-
-not_left : (a b c d e : Bool) → word_kind a b c d e ≡ Left → ⊥
-not_left true b c d e h = cc
-not_left false true c d e h = cc
-not_left false false true d e h = cc
-not_left false false false true e h = cc
-not_left false false false false true h = cc
-not_left false false false false false h = cc
-
-not_right : (a b c d e : Bool) → word_kind a b c d e ≡ Right → ⊥
-not_right true b c d e h = cc
-not_right false true c d e h = cc
-not_right false false true d e h = cc
-not_right false false false true e h = cc
-not_right false false false false true h = cc
-not_right false false false false false h = cc
-
-left_only : (l r a b c d e : Bool) → (if l then Left else (if r then Right else word_kind a b c d e)) ≡ Left → l ≡ true
-left_only true r a b c d e h = refl
-left_only false true a b c d e h = absurd (cc)
-left_only false false a b c d e h = absurd (not_left a b c d e h)
-
-right_only : (l r a b c d e : Bool) → (if l then Left else (if r then Right else word_kind a b c d e)) ≡ Right → r ≡ true
-right_only true r a b c d e h = absurd (cc)
-right_only false true a b c d e h = refl
-right_only false false a b c d e h = absurd (not_right a b c d e h)
-
-left_text : (text : List ℕ) → kind_of text ≡ Left → is_only 40 text ≡ true
-unfolding kind_of
-left_text text h = left_only (is_only 40 text) (is_only 41 text) (is_name text) (is_name_behind 63 text) (is_name_behind 58 text) (is_number text) (is_sign text) h
-
-right_text : (text : List ℕ) → kind_of text ≡ Right → is_only 41 text ≡ true
-unfolding kind_of
-right_text text h = right_only (is_only 40 text) (is_only 41 text) (is_name text) (is_name_behind 63 text) (is_name_behind 58 text) (is_number text) (is_sign text) h
 
 only_one : (c : ℕ) (text : List ℕ) → is_only c text ≡ true → length text ≡ 1
 only_one c [] h = absurd (cc)

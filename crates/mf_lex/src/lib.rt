@@ -15,3 +15,4 @@ pub use fault::{LexFault, TreeFault};
 pub use laws::{spans_are_nested, tokens_are_unique, tokens_have_no_fault, tree_is_unique};
 pub use lexer::tokens;
 pub use lists::tree;
+pub use words::kind;

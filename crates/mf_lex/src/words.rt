@@ -5,7 +5,8 @@ ghost use Rattle.mf_model.specs.Tokens.{is_name_byte, is_name, is_name_behind, i
 
 use mf_model::Kind;
 
-/// What a word or a bracket is, whatever the case of its letters.
+/// What a word or a bracket is, whatever the case of its letters: the kind that the lexer gives a token of
+/// these bytes. Bytes that are no token have a kind as well.
 #[tactic(auto, unfolding(mf_model::specs::Tokens::kind_of))]
 pub fn kind(word: &[u8]) -> Kind
     ensures { result ≡ kind_of (map to_ascii_lowercase word.now) }

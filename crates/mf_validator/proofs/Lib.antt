@@ -6,5 +6,5 @@ pub mod PieceLemmas
 pub mod ArgumentLemmas
 pub mod Tables
 pub mod LineLemmas
-pub mod Numbers
+pub mod WordLemmas
 pub mod ReadInstances

@@ -2,42 +2,31 @@
 ghost use Rattle.mf_model.specs.Tokens as tokens;
 ghost use Rattle.mf_validator.specs.PlanLines as spec;
 ghost use Rattle.std.specs.List.{list_all};
-ghost use Rattle.std.specs.Prelude.{◌≡◌};
+ghost use Rattle.std.specs.Char.{is_ascii_uppercase};
+ghost use Rattle.std.specs.Prelude.{◌≡◌, not};
 
-use mf_fraction::{NumberFault, read_decimal};
-
-#[tactic(auto, unfolding(mf_model::specs::Tokens::is_name_byte))]
-fn is_name_byte(byte: u8) -> bool
-    ensures { result ≡ tokens.is_name_byte byte }
-{
-    byte.is_ascii_lowercase() || byte.is_ascii_digit() || byte == b'-' || byte == b'_'
-}
-
-fn are_name_bytes(bytes: &[u8]) -> bool
-    ensures { result ≡ list_all tokens.is_name_byte bytes.now }
-{
-    bytes.iter().all(|byte| is_name_byte(*byte))
-}
+use mf_lex::kind;
+use mf_model::Kind;
 
 /// A letter, then letters, digits, `-` and `_`.
 pub(crate) fn is_name(word: &[u8]) -> bool
     ensures { result ≡ tokens.is_name word.now }
 {
-    match word {
-        [first, others @ ..] => first.is_ascii_lowercase() && are_name_bytes(others),
-        [] => false,
-    }
+    kind(word) == Kind::Name && are_small(word)
+}
+
+// No letter is a capital one.
+fn are_small(word: &[u8]) -> bool
+    ensures { result ≡ list_all (λ byte. not (is_ascii_uppercase byte)) word.now }
+{
+    word.iter().all(|byte| !byte.is_ascii_uppercase())
 }
 
 // An optional `-`, digits, and optionally a point and digits.
 fn is_number(word: &[u8]) -> bool
     ensures { result ≡ tokens.is_number word.now }
 {
-    match read_decimal(word) {
-        Ok(_) => true,
-        Err(NumberFault::Wide) => true,
-        Err(NumberFault::NotANumber) => false,
-    }
+    kind(word) == Kind::Number
 }
 
 // A number with this byte directly behind it.

@@ -1,11 +1,10 @@
-use Rattle.mf_validator.proofs.Numbers.{number_read, wide_read, nothing_read}
+use Rattle.std.proofs.Common.{◌∙◌, sym, rules}
+use denote.Enum.Bare.{same_true, same_false}
+use Rattle.mf_model.specs.contracts.token.Kind.{the_type}
+use Rattle.mf_validator.proofs.WordLemmas.{number_of_kind}
 use Rattle.mf_validator.proofs.word.is_number.Goals as goal
 
-pub returns-in-Ok : goal.returns-in-Ok
-returns-in-Ok c = number_read c.args.word.now c.in-Ok.field-0 c.in-Ok.ensures
-
-pub returns-in-Err-Wide : goal.returns-in-Err-Wide
-returns-in-Err-Wide c = wide_read c.args.word.now (rw c.in-Err-Wide.field-0-is at c.in-Err-Wide.ensures)
-
-pub returns-in-Err-NotANumber : goal.returns-in-Err-NotANumber
-returns-in-Err-NotANumber c = nothing_read c.args.word.now (rw c.in-Err-NotANumber.field-0-is at c.in-Err-NotANumber.ensures)
+pub returns : goal.returns
+returns c = number_of_kind c.args.word.now c.eq.result
+    (λ is. sym c.kind.ensures ∙ same_true the_type (search rules) _ _ (sym c.eq.ensures ∙ is))
+    (λ is same. same_false the_type _ _ (sym c.eq.ensures ∙ is) (c.kind.ensures ∙ same))

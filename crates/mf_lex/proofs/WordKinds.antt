@@ -1,0 +1,82 @@
+-- The kind of a text, and the test that it passes: the tests stand in a chain, of which the first that is met counts.
+use Rattle.std.proofs.Common.{◌≡◌, ℕ, Bool, true, false, List, [], ◌∷◌, refl, arith}
+use Rattle.std.specs.Prelude.{◌||◌, ◌==◌, if◌then◌else◌}
+use Rattle.std.specs.Char.{is_ascii_lowercase, is_ascii_digit}
+use Rattle.std.proofs.lemmas.Bool.Decides.{nat_tests}
+use Rattle.mf_model.specs.declared.token.Kind.{Kind}
+use Rattle.mf_model.specs.declared.token.Kind.TheVariants.{Left, Right, Name, Variable, Keyword, Number, Sign, Plain}
+use Rattle.mf_model.specs.Tokens.{is_only, is_name, is_name_behind, is_number, is_unsigned, is_sign, kind_of}
+
+abbrev chain : Bool → Bool → Bool → Bool → Bool → Bool → Bool → Kind
+chain left right name variable keyword number sign =
+    if left then Left
+    else (if right then Right
+    else (if name then Name
+    else (if variable then Variable
+    else (if keyword then Keyword
+    else (if number then Number
+    else (if sign then Sign
+    else Plain))))))
+
+left_only : (l r a b c d e : Bool) → chain l r a b c d e ≡ Left → l ≡ true
+left_only l r a b c d e h = grind arith
+
+right_only : (l r a b c d e : Bool) → chain l r a b c d e ≡ Right → r ≡ true
+right_only l r a b c d e h = grind arith
+
+name_only : (l r a b c d e : Bool) → chain l r a b c d e ≡ Name → a ≡ true
+name_only l r a b c d e h = grind arith
+
+number_only : (l r a b c d e : Bool) → chain l r a b c d e ≡ Number → d ≡ true
+number_only l r a b c d e h = grind arith
+
+pub left_text : (text : List ℕ) → kind_of text ≡ Left → is_only 40 text ≡ true
+unfolding kind_of
+left_text text h = left_only (is_only 40 text) (is_only 41 text) (is_name text) (is_name_behind 63 text) (is_name_behind 58 text) (is_number text) (is_sign text) h
+
+pub right_text : (text : List ℕ) → kind_of text ≡ Right → is_only 41 text ≡ true
+unfolding kind_of
+right_text text h = right_only (is_only 40 text) (is_only 41 text) (is_name text) (is_name_behind 63 text) (is_name_behind 58 text) (is_number text) (is_sign text) h
+
+pub name_text : (text : List ℕ) → kind_of text ≡ Name → is_name text ≡ true
+unfolding kind_of
+name_text text h = name_only (is_only 40 text) (is_only 41 text) (is_name text) (is_name_behind 63 text) (is_name_behind 58 text) (is_number text) (is_sign text) h
+
+pub number_text : (text : List ℕ) → kind_of text ≡ Number → is_number text ≡ true
+unfolding kind_of
+number_text text h = number_only (is_only 40 text) (is_only 41 text) (is_name text) (is_name_behind 63 text) (is_name_behind 58 text) (is_number text) (is_sign text) h
+
+-- ---- a text that passes a test fails those before it
+
+not_only : (c b : ℕ) (bs : List ℕ) → (b == c) ≡ false → is_only c (b ∷ bs) ≡ false
+not_only c b [] h = h
+not_only c b (d ∷ bs) h = refl
+
+not_behind : (c b : ℕ) (bs : List ℕ) → (b == c) ≡ false → is_name_behind c (b ∷ bs) ≡ false
+not_behind c b bs h = rw h refl
+
+pub name_kind : (text : List ℕ) → is_name text ≡ true → kind_of text ≡ Name
+unfolding kind_of
+name_kind [] h = cc
+name_kind (b ∷ bs) h =
+    let small : is_ascii_lowercase b ≡ true = grind arith in
+    let left = not_only 40 b bs (grind (arith, nat_tests)) in
+    let right = not_only 41 b bs (grind (arith, nat_tests)) in
+    rw left (rw right (rw h refl))
+
+-- a number begins with a digit or with `-`
+number_front : (b : ℕ) (bs : List ℕ) (minus : Bool) → (b == 45) ≡ minus → (if minus then is_unsigned bs else is_unsigned (b ∷ bs)) ≡ true → (b == 45 || is_ascii_digit b) ≡ true
+number_front b bs true is h = rw is refl
+number_front b bs false is h = grind arith
+
+pub number_kind : (text : List ℕ) → is_number text ≡ true → kind_of text ≡ Number
+unfolding kind_of
+number_kind [] h = cc
+number_kind (b ∷ bs) h =
+    let front = number_front b bs (b == 45) refl h in
+    let left = not_only 40 b bs (grind (arith, nat_tests)) in
+    let right = not_only 41 b bs (grind (arith, nat_tests)) in
+    let letter : is_ascii_lowercase b ≡ false = grind (arith, nat_tests) in
+    let variable : (b == 63) ≡ false = grind (arith, nat_tests) in
+    let keyword : (b == 58) ≡ false = grind (arith, nat_tests) in
+    rw left (rw right (rw letter (rw variable (rw keyword (rw h refl)))))
