@@ -1,9 +1,9 @@
 -- The truth of a condition is the exact one, or `Wide` exactly where some subexpression is too wide.
-use Rattle.std.proofs.Common.{◌≡◌, ℕ, Bool, true, false, ◌||◌, List, [], ◌∷◌, ◌++◌, map, Option, Result, Ok, Err, refl, subst, sym, ap, ◌∙◌}
+use Rattle.std.proofs.Common.{◌≡◌, ℕ, Bool, true, false, ◌||◌, List, [], ◌∷◌, ◌++◌, map, Option, Result, Ok, refl, subst, sym, ap, ◌∙◌}
 use Rattle.std.specs.List.{list_any, flat_map}
 use Rattle.mf_fraction.specs.Exact.{Number}
 use Rattle.mf_fraction.specs.declared.faults.Wide.{Wide}
-use Rattle.mf_model.specs.declared.task.Cond.{Cond, fold-Cond}
+use Rattle.mf_model.specs.declared.task.Cond.{Cond}
 use Rattle.mf_model.specs.declared.task.Cond.TheOpen.{Cond-F}
 use Rattle.mf_model.specs.declared.task.Cond.TheFolds.{ind-Cond, fold-roll-Cond, map-Cond}
 use Rattle.mf_model.specs.declared.task.Cond.TheViews.{roll-Cond}

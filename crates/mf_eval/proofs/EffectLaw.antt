@@ -1,22 +1,20 @@
 -- The changes that are collected are those of the firing effects, or `Wide` exactly where a condition or a right side is too wide.
-use Rattle.std.proofs.Common.{◌≡◌, ℕ, Bool, true, false, ◌||◌, ◌&&◌, if◌then◌else◌, List, [], ◌∷◌, ◌++◌, map, Option, Result, Ok, Err, refl, subst, sym, ap, ◌∙◌}
+use Rattle.std.proofs.Common.{◌≡◌, ℕ, Bool, true, false, ◌||◌, ◌&&◌, if◌then◌else◌, List, [], ◌∷◌, ◌++◌, map, Option, Result, Ok, refl, subst, sym, ap, ◌∙◌}
 use Rattle.std.specs.List.{list_any, flat_map}
 use Rattle.std.proofs.lemmas.List.{append_assoc, append-nil}
 use Rattle.std.proofs.lemmas.List.Concat.{flat_map-append}
 use Rattle.mf_fraction.specs.Exact.{Number}
 use Rattle.mf_fraction.specs.declared.faults.Wide.{Wide}
-use Rattle.mf_model.specs.declared.task.Effect.{Effect, fold-Effect}
+use Rattle.mf_model.specs.declared.task.Effect.{Effect}
 use Rattle.mf_model.specs.declared.task.Effect.TheOpen.{Effect-F}
 use Rattle.mf_model.specs.declared.task.Effect.TheFolds.{ind-Effect, fold-roll-Effect, map-Effect}
 use Rattle.mf_model.specs.declared.task.Effect.TheViews.{roll-Effect}
-use Rattle.mf_model.specs.Application.{Change, Added, Deleted, Changed, firing_of, firing_step}
+use Rattle.mf_model.specs.Application.{Change, Changed, firing_of, firing_step}
 use Rattle.mf_model.specs.Meaning.{holds_in, value_of}
 use Rattle.mf_model.specs.Objects.{bindings, having}
 use Rattle.mf_model.specs.Views.{Look, objects_of}
 use Rattle.mf_eval.specs.Answers.{answered, ◌>>=◌}
-use Rattle.mf_eval.specs.Checked.{kept_value}
 use Rattle.mf_eval.specs.Fired.{Firing, fired, fired_each, fired_step, threaded}
-use Rattle.mf_eval.specs.Judged.{met}
 use Rattle.mf_eval.specs.Width.{effect_step, is_condition_wide, is_effect_wide, is_wide}
 use Rattle.mf_eval.proofs.ConditionLaw.{met-is}
 use Rattle.mf_eval.proofs.ExpressionLaw.{kept_value-is}

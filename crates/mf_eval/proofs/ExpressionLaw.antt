@@ -1,11 +1,10 @@
 -- The checked value of an expression is the exact one, or `Wide` exactly where some subexpression is too wide.
-use Rattle.std.proofs.Common.{◌≡◌, ℕ, Bool, true, false, ◌||◌, List, [], ◌∷◌, map, Option, Some, None, Result, Ok, Err, refl, subst, sym, ap, ◌∙◌}
+use Rattle.std.proofs.Common.{◌≡◌, ℕ, Bool, true, false, ◌||◌, List, [], ◌∷◌, map, Option, Result, Ok, refl, subst, sym, ap, ◌∙◌}
 use Rattle.mf_fraction.specs.Exact.{Number}
 use Rattle.mf_fraction.specs.declared.faults.Wide.{Wide}
-use Rattle.mf_model.specs.declared.task.Expr.{Expr, fold-Expr}
+use Rattle.mf_model.specs.declared.task.Expr.{Expr}
 use Rattle.mf_model.specs.declared.task.Expr.TheOpen.{Expr-F}
 use Rattle.mf_model.specs.declared.task.Expr.TheFolds.{ind-Expr, fold-roll-Expr, map-Expr}
-use Rattle.mf_model.specs.declared.task.Expr.TheViews.{roll-Expr}
 use Rattle.mf_model.specs.Meaning.{combined, negated, sum_of_all, product_of_all, value_of, value_step}
 use Rattle.mf_model.specs.Views.{Look}
 use Rattle.mf_eval.specs.declared.operation.Operation.{Operation}

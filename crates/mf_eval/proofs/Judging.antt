@@ -1,5 +1,5 @@
 -- Facts on the walk over a condition.
-use Rattle.std.proofs.Common.{◌≡◌, ℕ, suc, zero, ◌<◌, ◌≤◌, max, List, [], ◌∷◌, length, map, get_or, Ok, sym, ap, ◌∙◌, arith, rules}
+use Rattle.std.proofs.Common.{◌≡◌, ℕ, suc, zero, ◌<◌, ◌≤◌, List, [], ◌∷◌, length, map, get_or, Ok, sym, ap, ◌∙◌, arith, rules}
 use Rattle.mf_model.specs.declared.task.Cond.{Cond, the_lemmas}
 use Rattle.mf_model.specs.declared.task.Cond.TheVariants.{Atom}
 use Rattle.mf_model.specs.declared.task.Effect.{Effect}

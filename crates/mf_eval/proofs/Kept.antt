@@ -52,13 +52,6 @@ unfolding checked_quotient quotient_where
 kept-wide None e = cc
 kept-wide (Some a) e = wide_where (fits a) a e
 
-fits_where : (b : Bool) (a : Number) → b ≡ true → Ok (Some a) ≡ answered (not b) (Some a)
-fits_where true a e = refl
-fits_where false a e = cc
-
-pub kept-fits : (a : Number) → fits a ≡ true → Ok (Some a) ≡ kept (Some a)
-kept-fits a e = fits_where (fits a) a e
-
 -- one operation on defined values, as the code does it
 pub operated_sum : (op : Operation) (x y : Option Number) (a b : Number) (r : Result Number Wide) (d : Result (Option Number) Wide) → op ≡ Sum → x ≡ Some a → y ≡ Some b → r ≡ checked (sum_of a b) → d ≡ as_defined r → d ≡ kept (operation_of op x y)
 operated_sum op x y a b r d o p q e f = rw (o, p, q) (f ∙ ap as_defined e ∙ as_defined-checked (sum_of a b))

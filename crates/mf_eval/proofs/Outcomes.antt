@@ -1,7 +1,6 @@
 -- What was read while an instance is applied, as its outcome.
-use Rattle.std.proofs.Common.{◌≡◌, ℕ, Bool, true, false, ◌&&◌, ◌||◌, not, if◌then◌else◌, List, [], ◌∷◌, ◌++◌, Option, Some, None, Result, Ok, Err, refl, subst, sym, ap, ◌∙◌}
+use Rattle.std.proofs.Common.{◌≡◌, ℕ, Bool, true, false, ◌||◌, List, [], ◌∷◌, Some, Result, Ok, Err, refl, sym, ap, ◌∙◌}
 use Rattle.std.specs.List.{list_all, fold, flat_map}
-use Rattle.mf_fraction.specs.Exact.{Number}
 use Rattle.mf_fraction.specs.declared.faults.Wide.{Wide}
 use Rattle.mf_fraction.specs.Checked.{wide}
 use Rattle.mf_model.specs.declared.state.PlainState.{PlainState}
@@ -9,7 +8,7 @@ use Rattle.mf_model.specs.declared.task.Action.{Action}
 use Rattle.mf_model.specs.declared.task.Atom.{Atom}
 use Rattle.mf_model.specs.declared.task.TypedTask.{TypedTask}
 use Rattle.mf_model.specs.declared.task.Valued.{Valued}
-use Rattle.mf_model.specs.Application.{Change, Added, Deleted, Changed, added, deleted, firing_of, is_apart, is_defined, new_value, reads_old, with_change, with_some_value}
+use Rattle.mf_model.specs.Application.{Change, Added, Deleted, Changed, added, deleted, firing_of, is_apart, is_defined, new_value, with_change, with_some_value}
 use Rattle.mf_model.specs.Meaning.{holds_in}
 use Rattle.mf_model.specs.Objects.{kinds_of}
 use Rattle.mf_model.specs.States.{look_of, value_at, with_atom, without_atom}
@@ -57,12 +56,6 @@ kept_changes-is values (change ∷ changes) =
     ∙ next_where (is_result_wide values change) (with_change values change) changes (some_result_is_wide (with_change values change) changes) (fold with_change (with_change values change) changes) (kept_changes-is (with_change values change) changes)
 
 module _ (state : PlainState) (changes : List Change) where
-  pub changed-undefined : list_all (is_defined (look_of state)) changes ≡ false → changed_outcome state changes ≡ Err (fault.NotApplicable why.Undefined)
-  changed-undefined d = rw d refl
-
-  pub changed-clash : list_all (is_defined (look_of state)) changes ≡ true → list_all (is_apart changes) changes ≡ false → changed_outcome state changes ≡ Err (fault.NotApplicable why.Clash)
-  changed-clash d a = rw (d, a) refl
-
   pub changed-fails : list_all (is_defined (look_of state)) changes ≡ true → list_all (is_apart changes) changes ≡ true → (reason : ApplyFault) → Fails (kept_changes state.values changes) reason → Gives (changed_outcome state changes) (Err reason)
   changed-fails d a fault.Wide h =
       let w = wide_from _ _ _ (sym (kept_changes-is state.values changes) ∙ h) in

@@ -1,8 +1,7 @@
 -- One more effect fired after a front of changes.
-use Rattle.std.proofs.Common.{◌≡◌, ℕ, ◌+◌, ◌<◌, List, [], ◌∷◌, length, get_or, drop, map, Result, Ok, Err, refl, sym, ap, ◌∙◌, subst}
+use Rattle.std.proofs.Common.{◌≡◌, ℕ, ◌+◌, ◌<◌, List, ◌∷◌, length, get_or, drop, Result, Ok, sym, ap, ◌∙◌, subst}
 use Rattle.std.proofs.lemmas.List.{drop_more}
 use Rattle.mf_fraction.specs.declared.faults.Wide.{Wide}
-use Rattle.mf_fraction.specs.Checked.{wide}
 use Rattle.mf_model.specs.declared.task.Effect.{Effect}
 use Rattle.mf_model.specs.Application.{Change}
 use Rattle.mf_model.specs.Views.{Look}

@@ -1,10 +1,9 @@
 -- Truths joined from the left, and truths that may be refused.
-use Rattle.std.proofs.Common.{◌≡◌, Bool, true, false, ◌||◌, List, [], ◌∷◌, ◌++◌, map, Result, Ok, Err, refl, sym, ap, ◌∙◌}
+use Rattle.std.proofs.Common.{◌≡◌, Bool, true, false, ◌||◌, List, [], ◌∷◌, ◌++◌, map, Result, Ok, refl, sym, ap, ◌∙◌}
 use Rattle.std.specs.List.{list_any, flat_map}
 use Rattle.std.proofs.lemmas.List.{map-append}
 use Rattle.std.proofs.lemmas.List.Folds.{list_any-append}
 use Rattle.mf_fraction.specs.declared.faults.Wide.{Wide}
-use Rattle.mf_fraction.specs.Checked.{wide}
 use Rattle.mf_model.specs.declared.truth.Truth.{Truth}
 use Rattle.mf_model.specs.declared.truth.Truth.TheVariants.{Yes, No, Neither}
 use Rattle.mf_model.specs.Meaning.{and_of, or_of, not_of, all_of, any_of}

@@ -1,5 +1,5 @@
 -- The sign tells whether a number is 0.
-use Rattle.std.proofs.Common.{◌≡◌, ℕ, zero, suc, Bool, eqb, ℤ, pos, negsuc, ◌*ℤ◌, of_z, w8, Option, Some, refl, sym, ap, ◌∙◌, arith}
+use Rattle.std.proofs.Common.{◌≡◌, zero, suc, eqb, ℤ, pos, negsuc, ◌*ℤ◌, of_z, w8, Option, Some, refl, sym, ap, ◌∙◌, arith}
 use Rattle.std.proofs.lemmas.Int.{ints}
 use Rattle.std.proofs.lemmas.Bool.Decides.{nat_tests}
 use Rattle.std.specs.Int.{int_signum}

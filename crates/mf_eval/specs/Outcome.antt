@@ -1,5 +1,5 @@
 -- What applying an instance answers.
-use Rattle.std.specs.Prelude.{◌≡◌, ℕ, Bool, true, false, ◌&&◌, ◌||◌, not, if◌then◌else◌, List, [], ◌∷◌, Option, Some, None, Result, Ok, Err, slice_get}
+use Rattle.std.specs.Prelude.{◌≡◌, ℕ, Bool, false, ◌&&◌, ◌||◌, not, if◌then◌else◌, List, [], ◌∷◌, Option, Some, None, Result, Ok, Err, slice_get}
 use Rattle.std.specs.List.{list_all}
 use Rattle.mf_fraction.specs.declared.faults.Wide.{Wide}
 use Rattle.mf_fraction.specs.Checked.{wide}
@@ -13,7 +13,6 @@ use Rattle.mf_model.specs.Objects.{kinds_of}
 use Rattle.mf_model.specs.States.{look_of, value_at}
 use Rattle.mf_eval.specs.declared.fault.ApplyFault.{ApplyFault}
 use Rattle.mf_eval.specs.declared.fault.ApplyFault.TheVariants as fault
-use Rattle.mf_eval.specs.declared.fault.Why.{Why}
 use Rattle.mf_eval.specs.declared.fault.Why.TheVariants as why
 use Rattle.mf_eval.specs.Width.{is_condition_wide, is_effect_wide, is_too_wide}
 

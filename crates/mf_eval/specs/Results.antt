@@ -1,5 +1,5 @@
 -- The values of a state under changes, over stored fractions alone: the first partial result that does not fit ends them.
-use Rattle.std.specs.Prelude.{ℕ, ◌&&◌, List, [], ◌∷◌, Option, Result, Ok, Err}
+use Rattle.std.specs.Prelude.{◌&&◌, List, [], ◌∷◌, Option, Result, Ok}
 use Rattle.mf_fraction.specs.Exact.{Number}
 use Rattle.mf_fraction.specs.declared.faults.Wide.{Wide}
 use Rattle.mf_model.specs.declared.task.Op.{Op}

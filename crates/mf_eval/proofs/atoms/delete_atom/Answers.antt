@@ -1,4 +1,4 @@
-use Rattle.std.proofs.Common.{not, rules, tests}
+use Rattle.std.proofs.Common.{not, rules}
 use Rattle.std.proofs.lemmas.Fn.{filter_same}
 use Rattle.mf_model.specs.States.{same_atom}
 use Rattle.mf_eval.proofs.atoms.delete_atom.Goals as goal

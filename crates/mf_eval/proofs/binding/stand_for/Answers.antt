@@ -1,4 +1,4 @@
-use Rattle.std.proofs.Common.{arith, length, map}
+use Rattle.std.proofs.Common.{arith}
 use Rattle.std.proofs.lemmas.List.{length-map}
 use Rattle.mf_model.specs.Views.{object_of, objects_of}
 use Rattle.mf_eval.proofs.Numbers.{same_numbers-lengths}

@@ -1,9 +1,8 @@
-use Rattle.std.proofs.Common.{rules, arith, ap, ◌≤◌, length}
-use Rattle.smallvec.specs.SmallVec.{SmallVec}
-use Rattle.mf_model.specs.declared.task.Cond.{Cond, the_lemmas}
+use Rattle.std.proofs.Common.{rules, arith, ap, length}
+use Rattle.mf_model.specs.declared.task.Cond.{the_lemmas}
 use Rattle.mf_model.specs.Objects.{kinds_of}
 use Rattle.mf_model.specs.States.{look_of}
-use Rattle.mf_eval.specs.Scope.{greatest, scope_of}
+use Rattle.mf_eval.specs.Scope.{scope_of}
 use Rattle.mf_eval.proofs.Judging.{judged-atom_arm, scope-within}
 use Rattle.mf_eval.proofs.condition.+judge.Goals as goal
 

@@ -1,10 +1,10 @@
-use Rattle.std.proofs.Common.{rules, arith, ap, ◌∙◌, ◌≤◌, length}
+use Rattle.std.proofs.Common.{rules, arith, ap, ◌∙◌, length}
 use Rattle.std.proofs.lemmas.Result.{err_from_is_err_and}
-use Rattle.mf_model.specs.declared.task.Effect.{Effect, the_lemmas}
+use Rattle.mf_model.specs.declared.task.Effect.{the_lemmas}
 use Rattle.mf_model.specs.Objects.{kinds_of}
 use Rattle.mf_model.specs.States.{look_of}
 use Rattle.mf_eval.specs.Fired.{changes_in}
-use Rattle.mf_eval.specs.Scope.{effect_scope_of, greatest}
+use Rattle.mf_eval.specs.Scope.{effect_scope_of}
 use Rattle.mf_eval.proofs.Judging.{effect_scope-within}
 use Rattle.mf_eval.proofs.Threading.{threaded_fails, threaded_more}
 use Rattle.mf_eval.proofs.firing.+fire.Goals as goal
