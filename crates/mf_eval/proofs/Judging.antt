@@ -18,9 +18,9 @@ scope-within (c ∷ parts) (suc i) d h = omega (arith, scope-within parts i d (o
 judged-atom : (objects : List (List ℕ)) (look : Look) (p : ℕ) (terms : List Term) (b : List ℕ) → judged objects look (Atom p terms) b ≡ Ok (truth_of (look.atom p (objects_of b terms)))
 judged-atom objects look p terms b = search (rules, the_lemmas)
 
-pub judged-atom_arm : (objects : List (List ℕ)) (look : Look) (condition : Cond) (p : ℕ) (terms ts : List Term) (b os : List ℕ) (truth : Truth) → condition ≡ Atom p terms → ts ≡ terms → os ≡ b → truth ≡ truth_of (look.atom p (objects_of os ts)) → Ok truth ≡ judged objects look condition b
-judged-atom_arm objects look condition p terms ts b os truth e f g h =
-    ap Ok (h ∙ ap (λ (x : List ℕ). truth_of (look.atom p (objects_of x ts))) g ∙ ap (λ (x : List Term). truth_of (look.atom p (objects_of b x))) f)
+pub judged-atom_arm : (objects : List (List ℕ)) (look : Look) (condition : Cond) (p : ℕ) (terms : List Term) (b os : List ℕ) (truth : Truth) → condition ≡ Atom p terms → os ≡ b → truth ≡ truth_of (look.atom p (objects_of os terms)) → Ok truth ≡ judged objects look condition b
+judged-atom_arm objects look condition p terms b os truth e f g =
+    ap Ok (g ∙ ap (λ (x : List ℕ). truth_of (look.atom p (objects_of x terms))) f)
     ∙ sym (ap (λ (x : Cond). judged objects look x b) e ∙ judged-atom objects look p terms b)
 
 pub effect_scope-within : (parts : List Effect) (i : ℕ) (d : Effect) → i < length parts → effect_scope_of (get_or parts i d) ≤ greatest (map effect_scope_of parts)

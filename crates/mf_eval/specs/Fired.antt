@@ -2,6 +2,7 @@
 -- the first condition or right side that is too wide ends them.
 use Rattle.std.specs.Prelude.{ℕ, List, [], ◌∷◌, ◌++◌, map, if◌then◌else◌, Result, Ok}
 use Rattle.mf_fraction.specs.declared.faults.Wide.{Wide}
+use Rattle.mf_model.specs.declared.task.Cond.{Cond}
 use Rattle.mf_model.specs.declared.task.Effect.{Effect, fold-Effect}
 use Rattle.mf_model.specs.declared.task.Effect.TheOpen.{Effect-F}
 use Rattle.mf_model.specs.Application.{Change, Added, Deleted, Changed}
@@ -36,6 +37,10 @@ fired_each objects part (types ∷ others) b = threaded (map (λ o. fired_each o
 abbrev pub fired_with : List (List ℕ) → (List ℕ → Firing) → List (List ℕ) → List ℕ → ℕ → Firing
 fired_with objects part others b object = fired_each objects part others (b ++ object ∷ [])
 
+-- the part, where the condition holds
+abbrev pub fired_when : List (List ℕ) → Look → Cond → (List ℕ → Firing) → List ℕ → Firing
+fired_when objects look condition part b front = met objects look condition b >>= λ holds. if holds then part b front else Ok front
+
 abbrev pub fired_step : List (List ℕ) → Look → Effect-F (List ℕ → Firing) → List ℕ → Firing
 fired_step objects look (Effect-F.Add predicate terms) b front = Ok (front ++ Added predicate (objects_of b terms) ∷ [])
 fired_step objects look (Effect-F.Delete predicate terms) b front = Ok (front ++ Deleted predicate (objects_of b terms) ∷ [])
@@ -43,8 +48,7 @@ fired_step objects look (Effect-F.Change op function terms value) b front =
     kept_value look value b >>= λ v. Ok (front ++ Changed op function (objects_of b terms) v ∷ [])
 fired_step objects look (Effect-F.Group parts) b front = threaded (map (λ part. part b) parts) front
 fired_step objects look (Effect-F.Each variables part) b front = fired_each objects part variables b front
-fired_step objects look (Effect-F.When condition part) b front =
-    met objects look condition b >>= λ holds. if holds then part b front else Ok front
+fired_step objects look (Effect-F.When condition part) b front = fired_when objects look condition part b front
 
 abbrev pub fired : List (List ℕ) → Look → Effect → List ℕ → Firing
 fired objects look = fold-Effect (List ℕ → Firing) (fired_step objects look)

@@ -63,7 +63,7 @@ fn apply_action(
         });
     }
     let mut deeds = Vec::new(alloc);
-    fire(alloc, scene, &action.effect, &mut binding, &mut deeds)?;
+    fire(scene, &action.effect, &mut binding, &mut deeds)?;
     change(alloc, scene.state, deeds.as_slice())
 }
 

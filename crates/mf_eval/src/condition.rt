@@ -65,12 +65,9 @@ pub(crate) fn judge(
     ensures same { binding.new ≡ binding.old }
 {
     match condition {
-        Cond::Atom { predicate, terms } => Ok(judge_atom(
-            scene.state,
-            *predicate,
-            terms.as_slice(),
-            binding.as_slice(),
-        )),
+        Cond::Atom { predicate, terms } => {
+            Ok(judge_atom(scene.state, *predicate, terms, binding.as_slice()))
+        }
         Cond::Same { left, right } => Ok(judge_same(*left, *right, binding.as_slice())),
         Cond::Compare {
             relation,
@@ -86,22 +83,12 @@ pub(crate) fn judge(
             Ok(connect(Connective::Or, negation(left), right))
         }
         Cond::All { variables, part } => {
-            judge_all(
-                scene,
-                Connective::And,
-                variables.as_slice(),
-                part.get(),
-                binding,
-            )
+            let variables = variables.as_slice();
+            judge_all(scene, Connective::And, variables, part.get(), binding)
         }
         Cond::Any { variables, part } => {
-            judge_all(
-                scene,
-                Connective::Or,
-                variables.as_slice(),
-                part.get(),
-                binding,
-            )
+            let variables = variables.as_slice();
+            judge_all(scene, Connective::Or, variables, part.get(), binding)
         }
     }
 }

@@ -22,7 +22,6 @@ pub(crate) enum Deed {
 }
 
 pub(crate) fn note_added(
-    alloc: Global,
     predicate: u16,
     terms: &[Term],
     binding: &[u16],
@@ -30,13 +29,12 @@ pub(crate) fn note_added(
 ) -> Result<(), Memory>
     ensures { OnOk result (changes_in deeds.new.items ≡ changes_in deeds.old.items ++ Added predicate (objects_of binding.now terms.now) ∷ []) }
 {
-    let objects = ground(alloc, terms, binding)?;
+    let objects = ground(*deeds.allocator(), terms, binding)?;
     deeds.push(Deed::Added(Atom { predicate, objects }))?;
     Ok(())
 }
 
 pub(crate) fn note_deleted(
-    alloc: Global,
     predicate: u16,
     terms: &[Term],
     binding: &[u16],
@@ -44,13 +42,12 @@ pub(crate) fn note_deleted(
 ) -> Result<(), Memory>
     ensures { OnOk result (changes_in deeds.new.items ≡ changes_in deeds.old.items ++ Deleted predicate (objects_of binding.now terms.now) ∷ []) }
 {
-    let objects = ground(alloc, terms, binding)?;
+    let objects = ground(*deeds.allocator(), terms, binding)?;
     deeds.push(Deed::Deleted(Atom { predicate, objects }))?;
     Ok(())
 }
 
 pub(crate) fn note_changed(
-    alloc: Global,
     op: Op,
     function: u16,
     terms: &[Term],
@@ -60,7 +57,7 @@ pub(crate) fn note_changed(
 ) -> Result<(), Memory>
     ensures { OnOk result (changes_in deeds.new.items ≡ changes_in deeds.old.items ++ Changed op function (objects_of binding.now terms.now) value ∷ []) }
 {
-    let objects = ground(alloc, terms, binding)?;
+    let objects = ground(*deeds.allocator(), terms, binding)?;
     let cell = Cell { function, objects };
     deeds.push(Deed::Changed { op, cell, value })?;
     Ok(())

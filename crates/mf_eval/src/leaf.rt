@@ -9,17 +9,17 @@ use crate::expression::evaluate;
 use crate::stored::is_true;
 use crate::truth::truth;
 use mf_fraction::{Frac, Wide, cmp};
-use mf_model::{Expr, PlainState, Relation, Term, Truth};
+use mf_model::{Expr, List, PlainState, Relation, Term, Truth};
 
 pub(crate) fn judge_atom(
     state: &PlainState,
     predicate: u16,
-    terms: &[Term],
+    terms: &List<Term>,
     binding: &[u16],
 ) -> Truth
     ensures { result ≡ truth_of ((look_of state.now).atom predicate (objects_of binding.now terms.now)) }
 {
-    truth(is_true(state.atoms.as_slice(), predicate, terms, binding))
+    truth(is_true(state.atoms.as_slice(), predicate, terms.as_slice(), binding))
 }
 
 pub(crate) fn judge_same(left: Term, right: Term, binding: &[u16]) -> Truth

@@ -22,4 +22,4 @@ judge_parts-judge-requires t c =
 
 pub judge-returns-in-Atom-clause-value : goal.judge-returns-in-Atom-clause-value
 judge-returns-in-Atom-clause-value t c =
-    judged-atom_arm (kinds_of c.args.scene.now.task.now) (look_of c.args.scene.now.state.now) _ _ _ _ _ _ _ c.in-Atom.is c.as_slice.ensures c.as_slice-in-Atom.ensures c.judge_atom.ensures
+    judged-atom_arm (kinds_of c.args.scene.now.task.now) (look_of c.args.scene.now.state.now) _ _ _ _ _ _ c.in-Atom.is c.as_slice.ensures c.judge_atom.ensures

@@ -8,6 +8,9 @@ use Rattle.mf_eval.proofs.firing.+fire.Given as goal
 abbrev pub decreases-fire : goal.decreases-fire
 decreases-fire l = 1000 * goal.size-fire l
 
+abbrev pub decreases-fire_when : goal.decreases-fire_when
+decreases-fire_when l = 1000 * goal.size-fire_when l + 500
+
 abbrev pub decreases-fire_parts : goal.decreases-fire_parts
 decreases-fire_parts l = 1000 * goal.size-fire_parts l + 500
 
