@@ -28,19 +28,13 @@ use Rattle.mf_reader.specs.GrammarSections.{AreParameters, IsPrecondition, IsOut
 use Rattle.mf_reader.proofs.Branches.{by_cases}
 use Rattle.mf_reader.proofs.Readings.{some_fault, none_of_both, both_said, mapped_said}
 use Rattle.mf_reader.proofs.Choices.{by_test, if_true}
-use Rattle.mf_reader.proofs.WordReadings.{true_false, same_text, text_same, name_reads, face_leaf, face_branch}
+use Rattle.mf_reader.proofs.WordReadings.{true_false, same_text, text_same, at_text, name_reads, face_leaf, face_branch}
 use Rattle.mf_reader.proofs.TypedReadings.{variable_list_reads}
 use Rattle.mf_reader.proofs.CondReadings.{cond_reads}
 use Rattle.mf_reader.proofs.EffectReadings.{effect_reads}
-use Rattle.mf_reader.proofs.SlotReadings.{Filled, None_at, Slot, slot_of, filled_of, skipped}
+use Rattle.mf_reader.proofs.SlotReadings.{is_free, Filled, None_at, Slot, slot_of, filled_of, skipped}
 
 -- Keywords of parts
-
-abbrev key_text : PartKey → List ℕ
-key_text Parameters = codes ":parameters"
-key_text Precondition = codes ":precondition"
-key_text Effect = codes ":effect"
-key_text Other = []
 
 abbrev KeyText : PartKey → List ℕ → Type 0
 KeyText Parameters text = text ≡ codes ":parameters"
@@ -62,9 +56,9 @@ KeyWord Effect t = IsWord (codes ":effect") t
 KeyWord Other t = Unit {0}
 
 key_leaf : (key : PartKey) (kind : Kind) (text : List ℕ) (span : Span) (t : Tree) → IsLeaf kind text span t → KeyText key text → KeyWord key t
-key_leaf Parameters kind text span t leaf e = (kind, span, subst (λ (v : List ℕ). IsLeaf kind v span t) e leaf)
-key_leaf Precondition kind text span t leaf e = (kind, span, subst (λ (v : List ℕ). IsLeaf kind v span t) e leaf)
-key_leaf Effect kind text span t leaf e = (kind, span, subst (λ (v : List ℕ). IsLeaf kind v span t) e leaf)
+key_leaf Parameters kind text span t leaf e = at_text kind text (codes ":parameters") span t leaf e
+key_leaf Precondition kind text span t leaf e = at_text kind text (codes ":precondition") span t leaf e
+key_leaf Effect kind text span t leaf e = at_text kind text (codes ":effect") span t leaf e
 key_leaf Other kind text span t leaf e = tt
 
 key_word : (t : Tree) → KeyWord (part_key_of (seen t).face) t
@@ -105,10 +99,6 @@ other_key : (key own : List ℕ) (t : Tree) → bytes_eq own key ≡ false → �
 other_key key own t differ = λ h.
     let e : own ≡ key = ap (λ (p : Part). p.key) h.1 in
     true_false (sym (subst (λ (v : List ℕ). bytes_eq v key ≡ true) (sym e) (text_same key)) ∙ differ)
-
-is_free : {A : Type 0} (o : Option A) → is_none o ≡ true → o ≡ None
-is_free None e = refl
-is_free (Some x) e = true_false (sym e)
 
 abbrev Parted : Slots → Slots → List Tree → Type 0
 Parted old new ts = (parts : List Part) × TakeTurns parts ts × AllByRecursion IsActionKey parts × PartsFilled old new parts

@@ -38,8 +38,8 @@ use Rattle.mf_reader.proofs.TypedReadings.{objects_read, subtypes_read}
 use Rattle.mf_reader.proofs.DeclReadings.{predicates_read, functions_read}
 use Rattle.mf_reader.proofs.TitleReadings.{title_reads, requirements_sound, requirements_complete}
 use Rattle.mf_reader.proofs.ActionReadings.{action_sound, action_complete}
-use Rattle.mf_reader.proofs.SlotReadings.{Filled, skipped, slot_of, filled_of, OfFound, section_of_slot, slot_of_section}
-use Rattle.mf_reader.proofs.SectionReadings.{lacks, listed_first, is_free, filling, DomainWord, domain_word, domain_key_at}
+use Rattle.mf_reader.proofs.SlotReadings.{is_free, Filled, skipped, slot_of, filled_of, OfFound, section_of_slot, slot_of_section}
+use Rattle.mf_reader.proofs.SectionReadings.{lacks, listed_first, filling, DomainWord, domain_word, domain_key_at}
 
 -- Slots
 

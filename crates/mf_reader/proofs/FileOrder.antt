@@ -23,9 +23,9 @@ use Rattle.mf_reader.specs.Problems as problem
 use Rattle.mf_reader.specs.Order.{AreInOrder}
 use Rattle.mf_reader.proofs.Rows.{Within, in_order}
 use Rattle.mf_reader.proofs.Choices.{by_test}
-use Rattle.mf_reader.proofs.WordOrder.{bad_in, left_in, group_within}
+use Rattle.mf_reader.proofs.WordOrder.{none_in, bad_in, left_in, group_within}
 use Rattle.mf_reader.proofs.TreeOrder.{seen_in_order}
-use Rattle.mf_reader.proofs.SectionOrder.{Trees, trees_tail, seen_row, Holds, in_row, one_in_row, each_in_row, ListsHold, layered, none_in, predicate_holds, requirements_within}
+use Rattle.mf_reader.proofs.SectionOrder.{Trees, trees_tail, seen_row, Holds, in_row, one_in_row, each_in_row, ListsHold, layered, predicate_holds, requirements_within}
 use Rattle.mf_reader.proofs.PartOrder.{bad_at, functions_hold, action_within, init_within}
 
 -- Names

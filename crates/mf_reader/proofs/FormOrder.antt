@@ -1,5 +1,5 @@
 -- The faults that stand in expressions, conditions and effects stand in order.
-use Rattle.std.proofs.Common.{ℕ, ◌<◌, ◌≤◌, Bool, true, false, List, [], ◌∷◌, arith, codes}
+use Rattle.std.proofs.Common.{ℕ, ◌<◌, Bool, true, false, List, [], ◌∷◌, codes}
 use Rattle.std.specs.Str.{bytes_eq}
 use Rattle.mf_model.specs.declared.task.Op.{Op}
 use Rattle.mf_model.specs.declared.task.Relation.{Relation}
@@ -27,10 +27,7 @@ use Rattle.mf_reader.specs.Conditions.{not_cond, imply_cond, all_cond, any_cond,
 use Rattle.mf_reader.specs.Effects.{not_effect, all_effect, when_effect, change_effect, effect_by, list_effect}
 use Rattle.mf_reader.proofs.Rows.{Row, row_tail, Keeps, one_within, two_within, each_within}
 use Rattle.mf_reader.proofs.Choices.{by_test}
-use Rattle.mf_reader.proofs.WordOrder.{term_keeps, IsIn, bad_in, left_in, atom_in_list, call_in_list}
-
-none_in : (span : Span) → span.start < span.end → span.start ≤ span.end
-none_in span some = omega arith
+use Rattle.mf_reader.proofs.WordOrder.{term_keeps, IsIn, none_in, bad_in, left_in, atom_in_list, call_in_list}
 
 -- Expressions
 

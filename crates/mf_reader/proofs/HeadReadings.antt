@@ -21,7 +21,7 @@ use Rattle.mf_reader.specs.GrammarConditions.{relation_word, cond_words}
 use Rattle.mf_reader.specs.GrammarEffects.{op_word}
 use Rattle.mf_reader.proofs.Branches.{by_cases, leaf_list}
 use Rattle.mf_reader.proofs.Choices.{by_test, if_false, not_listed, none_more}
-use Rattle.mf_reader.proofs.WordReadings.{same_text, face_leaf, face_branch}
+use Rattle.mf_reader.proofs.WordReadings.{same_text, at_text, face_leaf, face_branch}
 
 -- a name is no list, and has one text
 name_text : (kind : Kind) (text : List ℕ) (span : Span) (w : Word) (t : Tree) → IsLeaf kind text span t → IsName w t → text ≡ w.text
@@ -52,9 +52,6 @@ ExprWord x.Product t = IsWord (codes "*") t
 ExprWord x.Minus t = IsWord (codes "-") t
 ExprWord x.Quotient t = IsWord (codes "/") t
 ExprWord x.Other t = (w : Word) → IsName w t → list_any (λ word. bytes_eq w.text word) operators ≡ false
-
-at_text : (kind : Kind) (text key : List ℕ) (span : Span) (t : Tree) → IsLeaf kind text span t → text ≡ key → IsWord key t
-at_text kind text key span t leaf e = (kind, span, subst (λ (v : List ℕ). IsLeaf kind v span t) e leaf)
 
 expr_leaf : (h : ExprHead) (kind : Kind) (text : List ℕ) (span : Span) (t : Tree) → IsLeaf kind text span t → ExprText h text → ExprWord h t
 expr_leaf x.Sum kind text span t leaf e = at_text kind text (codes "+") span t leaf e

@@ -35,7 +35,7 @@ use Rattle.mf_reader.specs.GrammarSections.{IsHeld, IsDenied, IsStartValue, AreS
 use Rattle.mf_reader.proofs.Branches.{by_cases, one_list}
 use Rattle.mf_reader.proofs.Readings.{some_fault, none_of_both, both_said, mapped_said, each_sound, each_complete, all_reads}
 use Rattle.mf_reader.proofs.Choices.{by_test, if_false, not_listed}
-use Rattle.mf_reader.proofs.WordReadings.{true_false, same_text, text_same, not_true, name_reads, function_sound, function_complete, text_sound, text_complete, text_not, face_leaf, face_branch}
+use Rattle.mf_reader.proofs.WordReadings.{true_false, same_text, text_same, at_text, not_true, name_reads, function_sound, function_complete, text_sound, text_complete, text_not, face_leaf, face_branch}
 use Rattle.mf_reader.proofs.AtomReadings.{atom_reads}
 use Rattle.mf_reader.proofs.ExprSound.{first_same}
 use Rattle.mf_reader.proofs.ExprReadings.{metric_reads}
@@ -62,9 +62,6 @@ InitWord head.At t = IsWord (codes "at") t
 InitWord head.Equal t = IsWord (codes "=") t
 InitWord head.Not t = IsWord (codes "not") t
 InitWord head.Other t = ¬ IsWord (codes "=") t
-
-at_text : (kind : Kind) (text key : List ℕ) (span : Span) (t : Tree) → IsLeaf kind text span t → text ≡ key → IsWord key t
-at_text kind text key span t leaf e = (kind, span, subst (λ (v : List ℕ). IsLeaf kind v span t) e leaf)
 
 init_leaf : (h : InitHead) (kind : Kind) (text : List ℕ) (span : Span) (t : Tree) → IsLeaf kind text span t → InitText h text → InitWord h t
 init_leaf head.At kind text span t leaf e = at_text kind text (codes "at") span t leaf e

@@ -39,8 +39,8 @@ use Rattle.mf_reader.proofs.WordReadings.{true_false, text_sound, text_complete}
 use Rattle.mf_reader.proofs.TypedReadings.{objects_read}
 use Rattle.mf_reader.proofs.TitleReadings.{title_reads, word_sound, word_complete, requirements_sound, requirements_complete}
 use Rattle.mf_reader.proofs.InitReadings.{StartsAre, init_reads, GoalIs, goal_sound, goal_complete, metric_sound, metric_complete}
-use Rattle.mf_reader.proofs.SlotReadings.{skipped, OfFound}
-use Rattle.mf_reader.proofs.SectionReadings.{lacks, listed_first, is_free, filling, ProblemWord, problem_word, problem_key_at}
+use Rattle.mf_reader.proofs.SlotReadings.{is_free, skipped, OfFound}
+use Rattle.mf_reader.proofs.SectionReadings.{lacks, listed_first, filling, ProblemWord, problem_word, problem_key_at}
 use Rattle.mf_reader.proofs.DomainReadings.{AllRequired, flag, In, flag_free, free_flag, flag_same, held, given, required, given_flag, stood, stands_in}
 
 -- Slots

@@ -28,13 +28,6 @@ both_said f x y v w ex ey = ap (λ a. both f a y) ex ∙ ap (λ b. both f (said 
 pub mapped_said : {A B : Type 0} (f : A → B) (x : Said A) (v : A) → x ≡ said v → mapped f x ≡ said (f v)
 mapped_said f x v e = ap (mapped f) e
 
--- what is said without a fault
-pub said_of : {A : Type 0} (x : Said A) → x.faults ≡ [] → x ≡ said x.value
-said_of x e = ap (λ (fs : List FormFault). made fs x.value) e
-  where
-    made : {A : Type 0} → List FormFault → A → Said A
-    made fs v = record { faults = fs; value = v }
-
 -- What is said of a tree at a place agrees with a form: where no fault is said, the value is of the form; and
 -- where a value is of the form, it is said, and no fault.
 pub record Reads {V : Type 0} (read : Seen → Said V) (Form : V → Tree → Type 0) (t : Tree) : Type 0 where

@@ -60,11 +60,6 @@ abbrev pub Row : ℕ → List Seen → ℕ → Type 0
 Row from [] to = from ≤ to
 Row from (s ∷ ss) to = (begin : ℕ) × (end : ℕ) × (from ≤ begin) × Ordered s begin end × Row end ss to
 
-pub row_order : (from : ℕ) (ss : List Seen) (to : ℕ) → Row from ss to → from ≤ to
-row_order from [] to h = h
-row_order from (s ∷ ss) to h =
-    let a = h.2 in let o = h.3 in let first = o.first in let some = o.some in let rest = row_order h.1 ss to h.4 in omega arith
-
 pub row_wider : (from less : ℕ) (ss : List Seen) (to more : ℕ) → less ≤ from → to ≤ more → Row from ss to → Row less ss more
 row_wider from less [] to more below above h = omega arith
 row_wider from less (s ∷ ss) to more below above h =

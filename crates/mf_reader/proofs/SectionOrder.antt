@@ -20,7 +20,7 @@ use Rattle.mf_reader.specs.Headers.{header_by, predicate_layer, predicate_header
 use Rattle.mf_reader.specs.Requirements.{is_known, requirement_leaf, requirement_layer, requirement_of, requirements_of}
 use Rattle.mf_reader.proofs.Rows.{Within, wider, joined, single, Row}
 use Rattle.mf_reader.proofs.Choices.{by_test}
-use Rattle.mf_reader.proofs.WordOrder.{bad_in, group_within}
+use Rattle.mf_reader.proofs.WordOrder.{none_in, bad_in, group_within}
 use Rattle.mf_reader.proofs.TreeOrder.{span_leaf, span_branch, leaf_placed, list_placed, seen_in_order, all_in_order, row_of}
 
 -- Trees in a row
@@ -114,9 +114,6 @@ pub function_holds : Holds (λ t. (function_header t).faults)
 function_holds = layered (λ x. (function_layer x).faults) (λ kind text span some. bad_in span some) function_lists
 
 -- Requirements
-
-pub none_in : (span : Span) → span.start < span.end → span.start ≤ span.end
-none_in span some = omega arith
 
 known_within : (text : List ℕ) (span : Span) → span.start < span.end → Within span.start (requirement_leaf Keyword text span).faults span.end
 known_within text span some =

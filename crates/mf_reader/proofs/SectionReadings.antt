@@ -1,5 +1,5 @@
 -- Sections by their head words.
-use Rattle.std.proofs.Common.{◌≡◌, ℕ, Bool, true, false, ◌||◌, ◌⊎◌, Option, Some, None, is_none, List, ◌∷◌, refl, ap, sym, ◌∙◌, subst, inl, inr, codes}
+use Rattle.std.proofs.Common.{◌≡◌, ℕ, Bool, true, false, ◌||◌, ◌⊎◌, Option, Some, None, List, ◌∷◌, refl, ap, sym, ◌∙◌, subst, inl, inr, codes}
 use Rattle.std.specs.List.{list_any}
 use Rattle.std.specs.Str.{bytes_eq}
 use Rattle.mf_model.specs.declared.token.Kind.{Kind}
@@ -16,7 +16,7 @@ use Rattle.mf_reader.proofs.Branches.{by_cases, one_list}
 use Rattle.mf_reader.proofs.ExprSound.{first_same, rest_same}
 use Rattle.mf_reader.proofs.SlotReadings.{Filled}
 use Rattle.mf_reader.proofs.Choices.{by_test}
-use Rattle.mf_reader.proofs.WordReadings.{true_false, same_text, text_same, face_leaf, face_branch}
+use Rattle.mf_reader.proofs.WordReadings.{true_false, same_text, text_same, at_text, face_leaf, face_branch}
 
 -- A list has one head
 
@@ -41,10 +41,6 @@ listed_first text key keys e = by (bytes_eq text key) refl e
     by : (b : Bool) → bytes_eq text key ≡ b → (b || list_any (λ w. bytes_eq text w) keys) ≡ true → (text ≡ key) ⊎ (list_any (λ w. bytes_eq text w) keys ≡ true)
     by true is h = inl (same_text text key is)
     by false is h = inr h
-
-pub is_free : {A : Type 0} (o : Option A) → is_none o ≡ true → o ≡ None
-is_free None e = refl
-is_free (Some x) e = true_false (sym e)
 
 -- what fills the slot of a section
 abbrev pub Filling : {V : Type 0} → List ℕ → (V → List Tree → Type 0) → Option V → Option V → List Tree → List Tree → Type 0
@@ -88,9 +84,6 @@ DomainWord domain.Functions t = IsWord (codes ":functions") t
 DomainWord domain.Action t = IsWord (codes ":action") t
 DomainWord domain.LeftOut t = Unit {0}
 DomainWord domain.Other t = Unit {0}
-
-at_text : (kind : Kind) (text key : List ℕ) (span : Span) (t : Tree) → IsLeaf kind text span t → text ≡ key → IsWord key t
-at_text kind text key span t leaf e = (kind, span, subst (λ (v : List ℕ). IsLeaf kind v span t) e leaf)
 
 domain_leaf : (key : DomainKey) (kind : Kind) (text : List ℕ) (span : Span) (t : Tree) → IsLeaf kind text span t → DomainText key text → DomainWord key t
 domain_leaf domain.Requirements kind text span t leaf e = at_text kind text (codes ":requirements") span t leaf e

@@ -1,8 +1,9 @@
 -- Sections and parts in any order, each at most once: a slot for each is filled by the one that stands.
-use Rattle.std.proofs.Common.{◌≡◌, ℕ, ◌⊎◌, Option, Some, None, List, [], ◌∷◌, ◌++◌, refl, ap, sym, subst, inl, inr}
+use Rattle.std.proofs.Common.{◌≡◌, ℕ, true, ◌⊎◌, Option, Some, None, is_none, List, [], ◌∷◌, ◌++◌, refl, ap, sym, subst, inl, inr}
 use Rattle.std.specs.List.{AllByRecursion}
 use Rattle.mf_model.specs.declared.tree.Tree.{Tree}
 use Rattle.mf_model.specs.Forms.{Headed, IsHeaded, IsSection}
+use Rattle.mf_reader.proofs.WordReadings.{true_false}
 
 -- A slot, filled by the one item for which `At` holds of something
 
@@ -35,11 +36,12 @@ abbrev pub Slot : {X H V : Type 0} → (H → X → Type 0) → (V → H → Typ
 Slot At Of None xs = None_at At xs
 Slot At Of (Some v) xs = One At Of v xs
 
+pub is_free : {A : Type 0} (o : Option A) → is_none o ≡ true → o ≡ None
+is_free None e = refl
+is_free (Some x) e = true_false (sym e)
+
 some_none : {A B : Type 0} (x : A) → Some x ≡ None → B
 some_none x e = let h : ⊥ = cc in absurd h
-
-value_same : {A : Type 0} (x y : A) → Some x ≡ Some y → x ≡ y
-value_same x y e = cc
 
 -- a full slot stays
 full : {X H V : Type 0} (At : H → X → Type 0) (Of : V → H → Type 0) (v : V) (new : Option V) (xs : List X) → Filled At Of (Some v) new xs → (new ≡ Some v) × None_at At xs

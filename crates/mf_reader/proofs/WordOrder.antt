@@ -72,6 +72,9 @@ term_keeps s from to o = term_within s.face from to o.first o.some
 abbrev pub IsIn : {A : Type 0} → Span → Said A → Type 0
 IsIn span x = Within span.start x.faults span.end
 
+pub none_in : (span : Span) → span.start < span.end → span.start ≤ span.end
+none_in span some = omega arith
+
 pub bad_in : (span : Span) → span.start < span.end → Within span.start (BadForm span ∷ []) span.end
 bad_in span some = single span.start (BadForm span) span.end (omega arith) some
 

@@ -8,19 +8,13 @@ use Rattle.mf_model.specs.declared.token.Span.{Span}
 use Rattle.mf_model.specs.declared.tree.Tree.{Tree}
 use Rattle.mf_model.specs.declared.form.Word.{Word}
 use Rattle.mf_model.specs.Forms.{IsLeaf, IsList, IsWord, IsName, IsVariable, IsTerm, IsPredicate}
-use Rattle.mf_reader.specs.Said.{Said, said}
+use Rattle.mf_reader.specs.Said.{said}
 use Rattle.mf_reader.specs.Faces.{Face, Leaf, Branch, has_text, word, name_at, variable_at, term_at, is_term}
 use Rattle.mf_reader.specs.Heads.{is_reserved, function_of, predicate_of}
 use Rattle.mf_reader.specs.Places.{Seen}
 use Rattle.mf_reader.specs.Seen.{seen}
 use Rattle.mf_reader.proofs.Branches.{seen_leaf, seen_branch, by_cases}
 use Rattle.mf_reader.proofs.Readings.{Reads, some_fault}
-
-pub reads_at : {V : Type 0} (read : Seen → Said V) (Form : V → Tree → Type 0) (t : Tree) (s : Seen) → seen t ≡ s → ((read s).faults ≡ [] → Form (read s).value t) → ((v : V) → Form v t → read s ≡ said v) → Reads read Form t
-reads_at read Form t s is sound complete = record {
-  sound = subst (λ (z : Seen). (read z).faults ≡ [] → Form (read z).value t) (sym is) sound;
-  complete = λ v h. ap read is ∙ complete v h;
-}
 
 pub face_leaf : (kind : Kind) (text : List ℕ) (span : Span) (t : Tree) → IsLeaf kind text span t → (seen t).face ≡ Leaf kind text span
 face_leaf kind text span t h = ap (λ (s : Seen). s.face) (seen_leaf kind text span t h)
@@ -113,15 +107,15 @@ text_same xs = (bytes_eq-Decides xs xs).1 refl
 pub text_complete : (text : List ℕ) (t : Tree) → IsWord text t → has_text text (seen t).face ≡ true
 text_complete text t h = ap (has_text text) (face_leaf h.0 text h.1 t h.2) ∙ text_same text
 
-text_leaf : (text : List ℕ) (kind : Kind) (own : List ℕ) (span : Span) (t : Tree) → IsLeaf kind own span t → bytes_eq own text ≡ true → IsWord text t
-text_leaf text kind own span t h e = (kind, span, subst (λ (s : List ℕ). IsLeaf kind s span t) (same_text own text e) h)
+pub at_text : (kind : Kind) (text key : List ℕ) (span : Span) (t : Tree) → IsLeaf kind text span t → text ≡ key → IsWord key t
+at_text kind text key span t leaf e = (kind, span, subst (λ (v : List ℕ). IsLeaf kind v span t) e leaf)
 
 pub true_false : {B : Type 0} → true ≡ false → B
 true_false e = let h : ⊥ = cc in absurd h
 
 pub text_sound : (text : List ℕ) (t : Tree) → has_text text (seen t).face ≡ true → IsWord text t
 text_sound text t = by_cases (λ t. has_text text (seen t).face ≡ true → IsWord text t)
-    (λ kind own span t h e. text_leaf text kind own span t h (ap (has_text text) (sym (face_leaf kind own span t h)) ∙ e))
+    (λ kind own span t h e. at_text kind own text span t h (same_text own text (ap (has_text text) (sym (face_leaf kind own span t h)) ∙ e)))
     (λ items span t h e. true_false (sym (ap (has_text text) (sym (face_branch items span t h)) ∙ e))) t
 
 pub not_true : (b : Bool) → (b ≡ true → ⊥) → b ≡ false

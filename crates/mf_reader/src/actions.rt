@@ -3,7 +3,6 @@ ghost use Rattle.mf_reader.specs.ActionParts as reading;
 ghost use Rattle.mf_reader.specs.Actions as spec;
 ghost use Rattle.mf_reader.specs.Filled.{Fills};
 ghost use Rattle.mf_reader.specs.Said.{Gives};
-ghost use Rattle.mf_reader.specs.Seen.{seen};
 
 use crate::conditions::condition;
 use crate::effects::effect;

@@ -1,4 +1,4 @@
-ghost use Rattle.std.specs.Prelude.{◌≡◌, map};
+ghost use Rattle.std.specs.Prelude.{map};
 ghost use Rattle.mf_reader.specs.Atoms as spec;
 ghost use Rattle.mf_reader.specs.Heads.{function_of, predicate_of};
 ghost use Rattle.mf_reader.specs.Said.{Gives, said};

@@ -1,4 +1,4 @@
-ghost use Rattle.std.specs.Prelude.{◌≡◌, map};
+ghost use Rattle.std.specs.Prelude.{map};
 ghost use Rattle.mf_reader.specs.Conditions as spec;
 ghost use Rattle.mf_reader.specs.Said.{Gives, each, mapped};
 ghost use Rattle.mf_reader.specs.Atoms.{atom_at};

@@ -1,4 +1,4 @@
-ghost use Rattle.std.specs.Prelude.{◌≡◌, map};
+ghost use Rattle.std.specs.Prelude.{map};
 ghost use Rattle.mf_reader.specs.Effects as spec;
 ghost use Rattle.mf_reader.specs.Atoms.{atom_at};
 ghost use Rattle.mf_reader.specs.Places.{effect_in};

@@ -1,4 +1,4 @@
-ghost use Rattle.std.specs.Prelude.{◌≡◌, ◌≤◌, ◌∷◌, length, IfOk};
+ghost use Rattle.std.specs.Prelude.{◌≤◌, ◌∷◌, length, IfOk};
 ghost use Rattle.mf_reader.specs.Functions as spec;
 ghost use Rattle.mf_reader.specs.FunctionGroups as reading;
 ghost use Rattle.mf_reader.specs.Said.{Gives, said};

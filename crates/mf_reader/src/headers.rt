@@ -1,6 +1,6 @@
 ghost use Rattle.std.specs.Prelude.{map};
 ghost use Rattle.mf_reader.specs.Headers as spec;
-ghost use Rattle.mf_reader.specs.Said.{Gives, each, mapped};
+ghost use Rattle.mf_reader.specs.Said.{Gives, mapped};
 ghost use Rattle.mf_reader.specs.Seen.{seen};
 ghost use Rattle.mf_reader.specs.Typed.{typed_variables};
 
