@@ -15,7 +15,7 @@ use Rattle.mf_reader.specs.Keys.{part_key_of}
 use Rattle.mf_reader.specs.Said.{Said, said, bad, both, mapped}
 use Rattle.mf_reader.specs.Seen.{seen}
 
--- the parts that stand
+-- no part stands
 abbrev pub no_parts : Slots
 no_parts = record { parameters = None; condition = None; effect = None }
 

@@ -20,7 +20,7 @@ use Rattle.mf_reader.specs.Seen.{seen}
 use Rattle.mf_reader.specs.Titles.{title_of}
 use Rattle.mf_reader.specs.Typed.{typed_names, typed_types}
 
--- the sections that stand
+-- no section stands
 abbrev pub no_sections : DomainParts
 no_sections = record { requirements = false; types = None; constants = None; predicates = None; functions = None; actions = [] }
 

@@ -2,7 +2,7 @@
 use Rattle.std.specs.Prelude.{ℕ, Bool, true, false, List, [], codes}
 use Rattle.std.specs.Str.{bytes_eq}
 use Rattle.mf_model.specs.declared.token.Kind.{Kind}
-use Rattle.mf_model.specs.declared.token.Kind.TheVariants.{Name, Variable, Keyword}
+use Rattle.mf_model.specs.declared.token.Kind.TheVariants.{Name, Variable}
 use Rattle.mf_model.specs.declared.token.Span.{Span}
 use Rattle.mf_model.specs.declared.form.Word.{Word}
 use Rattle.mf_reader.specs.Said.{Said, said, bad}
@@ -40,11 +40,6 @@ abbrev pub variable_at : Face → Said Word
 variable_at (Leaf Variable text span) = said (word text span)
 variable_at (Leaf kind text span) = no_word span
 variable_at (Branch span) = no_word span
-
-abbrev pub keyword_at : Face → Said Word
-keyword_at (Leaf Keyword text span) = said (word text span)
-keyword_at (Leaf kind text span) = no_word span
-keyword_at (Branch span) = no_word span
 
 -- a term is a name or a variable
 abbrev pub is_term_kind : Kind → Bool

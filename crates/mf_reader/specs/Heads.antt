@@ -64,7 +64,7 @@ abbrev pub effect_head_of : Face → EffectHead
 effect_head_of (Leaf kind text span) = effect_head text
 effect_head_of (Branch span) = e.Other
 
--- the heads of conditions and effects, which name no predicate
+-- the heads of conditions, effects and types that name no predicate
 unfoldable pub is_reserved : List ℕ → Bool
 is_reserved text = list_any (λ own. bytes_eq text own) reserved
 

@@ -24,7 +24,7 @@ use Rattle.mf_reader.specs.Typed.{typed_names}
 
 -- Sections
 
--- the sections that stand
+-- no section stands
 abbrev pub no_sections : ProblemParts
 no_sections = record { domain = false; requirements = false; objects = None; init = None; goal = None; metric = None }
 

@@ -2,10 +2,10 @@ use mf_model::Span;
 use std::alloc::{AllocError, AllocFailed};
 use thiserror::Error;
 
-/// Why a tree is no domain or no problem: the span of the fault.
+/// Why a tree is no domain or no problem, with the span of the fault; or that memory ran out.
 #[derive(Clone, Copy, Debug, Drop, PartialEq, Eq, Error)]
 pub enum FormFault {
-    /// A requirement that no domain has.
+    /// A requirement that is not known.
     #[error("a requirement that is not known, at {span:?}")]
     UnknownRequirement { span: Span },
     /// A construct of PDDL that the planner leaves out.

@@ -5,7 +5,7 @@ ghost use Rattle.mf_reader.specs.Seen.{seen};
 use mf_model::{Op, Relation, Tree};
 
 /// The head of a list where a condition stands.
-#[derive(Clone, Copy, Debug, PartialEq, Eq)]
+#[derive(Clone, Copy)]
 pub(crate) enum CondHead {
     Not,
     And,
@@ -18,12 +18,12 @@ pub(crate) enum CondHead {
     /// One of the other relations between numbers.
     Compare(Relation),
     Preference,
-    /// No word of the grammar: the head of an atom, if of any form.
+    /// Any other: the head of an atom, if of any form.
     Other,
 }
 
 /// The head of a list where an expression stands.
-#[derive(Clone, Copy, Debug, PartialEq, Eq)]
+#[derive(Clone, Copy)]
 pub(crate) enum ExprHead {
     Sum,
     Product,
@@ -35,14 +35,14 @@ pub(crate) enum ExprHead {
 }
 
 /// The head of a list where an effect stands.
-#[derive(Clone, Copy, Debug, PartialEq, Eq)]
+#[derive(Clone, Copy)]
 pub(crate) enum EffectHead {
     Not,
     And,
     All,
     When,
     Change(Op),
-    /// No word of the grammar: the head of an atom, if of any form.
+    /// Any other: the head of an atom, if of any form.
     Other,
 }
 
@@ -156,7 +156,7 @@ pub(crate) fn effect_head_of(tree: &Tree) -> EffectHead
     }
 }
 
-/// Whether a text is the head of a condition or an effect, which names no predicate.
+/// Whether a text is a head of conditions, effects or types that names no predicate.
 #[tactic(auto, unfolding(crate::specs::Heads::is_reserved))]
 pub(crate) fn is_reserved(text: &[u8]) -> bool
     ensures { result ≡ spec.is_reserved text.now }

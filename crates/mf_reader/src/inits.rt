@@ -18,7 +18,7 @@ pub(crate) enum InitHead {
     At,
     Equal,
     Not,
-    /// No word of the grammar: the head of an atom, if of any form.
+    /// Any other: the head of an atom, if of any form.
     Other,
 }
 

@@ -1,5 +1,5 @@
 /// Where an expression stands.
-#[derive(Clone, Copy, Debug, PartialEq, Eq)]
+#[derive(Clone, Copy)]
 pub(crate) enum ExprPlace {
     /// In a condition or an effect.
     Action,
@@ -8,7 +8,7 @@ pub(crate) enum ExprPlace {
 }
 
 /// Where an effect stands.
-#[derive(Clone, Copy, Debug, PartialEq, Eq)]
+#[derive(Clone, Copy)]
 pub(crate) enum EffectPlace {
     Action,
     /// Inside the effect of a `when`.

@@ -12,7 +12,7 @@ use std::alloc::Global;
 use std::mem::replace;
 
 /// What a typed list lists.
-#[derive(Clone, Copy, Debug, PartialEq, Eq)]
+#[derive(Clone, Copy)]
 pub(crate) enum Listed {
     /// Parameters and quantified variables.
     Variables,

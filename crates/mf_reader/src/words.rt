@@ -12,8 +12,7 @@ pub(crate) fn span_of(tree: &Tree) -> Span
     ensures { result ≡ spec.span_of (seen tree.now).face }
 {
     match tree {
-        Tree::Leaf { span, .. } => *span,
-        Tree::Branch { span, .. } => *span,
+        Tree::Leaf { span, .. } | Tree::Branch { span, .. } => *span,
     }
 }
 
@@ -66,22 +65,6 @@ pub(crate) fn term(alloc: Global, tree: &Tree) -> Result<Word, FormFault>
     match tree {
         Tree::Leaf {
             kind: Kind::Name | Kind::Variable,
-            text,
-            span,
-        } => word(alloc, text, *span),
-        _ => Err(FormFault::BadForm {
-            span: span_of(tree),
-        }),
-    }
-}
-
-/// The keyword at a place.
-pub(crate) fn keyword(alloc: Global, tree: &Tree) -> Result<Word, FormFault>
-    ensures { Gives result (spec.keyword_at (seen tree.now).face) }
-{
-    match tree {
-        Tree::Leaf {
-            kind: Kind::Keyword,
             text,
             span,
         } => word(alloc, text, *span),
