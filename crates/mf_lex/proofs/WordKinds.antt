@@ -52,9 +52,6 @@ not_only : (c b : ℕ) (bs : List ℕ) → (b == c) ≡ false → is_only c (b �
 not_only c b [] h = h
 not_only c b (d ∷ bs) h = refl
 
-not_behind : (c b : ℕ) (bs : List ℕ) → (b == c) ≡ false → is_name_behind c (b ∷ bs) ≡ false
-not_behind c b bs h = rw h refl
-
 pub name_kind : (text : List ℕ) → is_name text ≡ true → kind_of text ≡ Name
 unfolding kind_of
 name_kind [] h = cc

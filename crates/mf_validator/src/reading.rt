@@ -3,7 +3,7 @@ ghost use Rattle.mf_validator.specs.Lexicons.{Adds, Knows};
 ghost use Rattle.mf_validator.specs.PlanLines.{is_line_feed, line_of, lines_of};
 ghost use Rattle.mf_validator.specs.PlanText.{Reads, folded, plan_of, steps_from, steps_of};
 ghost use Rattle.std.specs.List.{All, position};
-ghost use Rattle.std.specs.Prelude.{◌≡◌, ◌+◌, ◌≤◌, ◌<◌, ◌∷◌, Contains, IfOk, length};
+ghost use Rattle.std.specs.Prelude.{◌≡◌, ◌≤◌, ◌<◌, ◌∷◌, Contains, IfOk, length};
 
 use crate::directory::{Lexicon, read_names};
 use crate::fault::PlanFault;

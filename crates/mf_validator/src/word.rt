@@ -1,8 +1,8 @@
 //! The kinds of words of a plan file, in small letters.
 ghost use Rattle.mf_model.specs.Tokens as tokens;
 ghost use Rattle.mf_validator.specs.PlanLines as spec;
-ghost use Rattle.std.specs.List.{list_all};
 ghost use Rattle.std.specs.Char.{is_ascii_uppercase};
+ghost use Rattle.std.specs.List.{list_all};
 ghost use Rattle.std.specs.Prelude.{◌≡◌, not};
 
 use mf_lex::kind;
