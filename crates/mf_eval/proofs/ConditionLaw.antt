@@ -1,5 +1,6 @@
 -- The truth of a condition is the exact one, or `Wide` exactly where some subexpression is too wide.
-use Rattle.std.proofs.Common.{◌≡◌, ℕ, Bool, true, false, ◌||◌, List, [], ◌∷◌, ◌++◌, map, Option, Result, Ok, refl, subst, sym, ap, ◌∙◌}
+use Rattle.std.proofs.Common.{◌≡◌, ℕ, Bool, false, ◌||◌, List, [], ◌∷◌, ◌++◌, map, Option, Result, Ok, refl, subst, sym, ap, ◌∙◌}
+use Rattle.std.proofs.Math.Bool.{or-false}
 use Rattle.std.specs.List.{list_any, flat_map}
 use Rattle.mf_fraction.specs.Exact.{Number}
 use Rattle.mf_fraction.specs.declared.faults.Wide.{Wide}
@@ -21,15 +22,11 @@ use Rattle.mf_eval.proofs.ExpressionLaw.{kept_value-is}
 use Rattle.mf_eval.proofs.Parts.{fused, fused_any}
 use Rattle.mf_eval.proofs.Truths.{joined, joined-and, joined-flat_map, joined-or, judged_all-is, list_any-flat_map, then_one, then_two, connected-neutral}
 
-or-false : (b : Bool) → b ≡ (b || false)
-or-false true = refl
-or-false false = refl
-
 -- quantifiers
 module _ (objects : List (List ℕ)) (c : Connective) (r : List ℕ → Result Truth Wide) (w : List ℕ → Bool) (v : List ℕ → Truth) (is : (b : List ℕ) → r b ≡ answered (w b) (v b)) where
   pub judged_quantifier-is : (variables : List (List ℕ)) (b : List ℕ) → judged_quantifier objects c r variables b ≡ answered (list_any w (bindings objects variables b)) (joined c (map v (bindings objects variables b)))
   judged_quantifier-is [] b =
-      is b ∙ ap (λ (x : Bool). answered x (v b)) (or-false (w b)) ∙ ap (λ (t : Truth). answered (w b || false) t) (sym (connected-neutral c (v b)))
+      is b ∙ ap (λ (x : Bool). answered x (v b)) (sym (or-false (w b))) ∙ ap (λ (t : Truth). answered (w b || false) t) (sym (connected-neutral c (v b)))
   judged_quantifier-is (types ∷ others) b =
       let g = λ (o : ℕ). bindings objects others (b ++ o ∷ []) in
       let numbers = having types 0 objects in

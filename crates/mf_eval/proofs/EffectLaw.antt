@@ -1,5 +1,6 @@
 -- The changes that are collected are those of the firing effects, or `Wide` exactly where a condition or a right side is too wide.
 use Rattle.std.proofs.Common.{◌≡◌, ℕ, Bool, true, false, ◌||◌, ◌&&◌, if◌then◌else◌, List, [], ◌∷◌, ◌++◌, map, Option, Result, Ok, refl, subst, sym, ap, ◌∙◌}
+use Rattle.std.proofs.Math.Bool.{or-false}
 use Rattle.std.specs.List.{list_any, flat_map}
 use Rattle.std.proofs.lemmas.List.{append_assoc, append-nil}
 use Rattle.std.proofs.lemmas.List.Concat.{flat_map-append}
@@ -21,10 +22,6 @@ use Rattle.mf_eval.proofs.ExpressionLaw.{kept_value-is}
 use Rattle.mf_eval.proofs.Parts.{fused, fused_any, fused_flat}
 use Rattle.mf_eval.proofs.Truths.{list_any-flat_map, then_one}
 
-or-false : (b : Bool) → b ≡ (b || false)
-or-false true = refl
-or-false false = refl
-
 flat_map-flat_map : {X Y A : Type 0} (v : Y → List A) (g : X → List Y) (xs : List X) → flat_map (λ x. flat_map v (g x)) xs ≡ flat_map v (flat_map g xs)
 flat_map-flat_map v g [] = refl
 flat_map-flat_map v g (x ∷ xs) = ap (λ l. flat_map v (g x) ++ l) (flat_map-flat_map v g xs) ∙ sym (flat_map-append v (g x) (flat_map g xs))
@@ -42,7 +39,7 @@ module _ {X : Type 0} (r : X → Firing) (w : X → Bool) (v : X → List Change
 module _ (objects : List (List ℕ)) (r : List ℕ → Firing) (w : List ℕ → Bool) (v : List ℕ → List Change) (is : (b : List ℕ) (front : List Change) → r b front ≡ answered (w b) (front ++ v b)) where
   pub fired_each-is : (variables : List (List ℕ)) (b : List ℕ) (front : List Change) → fired_each objects r variables b front ≡ answered (list_any w (bindings objects variables b)) (front ++ flat_map v (bindings objects variables b))
   fired_each-is [] b front =
-      is b front ∙ ap (λ (x : Bool). answered x (front ++ v b)) (or-false (w b)) ∙ ap (λ (l : List Change). answered (w b || false) (front ++ l)) (sym (append-nil (v b)))
+      is b front ∙ ap (λ (x : Bool). answered x (front ++ v b)) (sym (or-false (w b))) ∙ ap (λ (l : List Change). answered (w b || false) (front ++ l)) (sym (append-nil (v b)))
   fired_each-is (types ∷ others) b front =
       let g = λ (o : ℕ). bindings objects others (b ++ o ∷ []) in
       let numbers = having types 0 objects in

@@ -1,12 +1,9 @@
 -- Lists of numbers, compared from their fronts.
-use Rattle.std.proofs.Common.{◌≡◌, ℕ, suc, ◌<◌, ◌≤◌, Bool, true, false, ◌&&◌, nat_eq, nat_lt, List, [], ◌∷◌, length, drop, refl, sym, ap, ◌∙◌, ⊎_elim, arith}
+use Rattle.std.proofs.Common.{◌≡◌, ℕ, suc, ◌<◌, ◌≤◌, Bool, false, ◌&&◌, nat_eq, nat_lt, List, [], ◌∷◌, length, drop, refl, sym, ap, ◌∙◌, ⊎_elim, arith}
+use Rattle.std.proofs.Math.Bool.{and-false}
 use Rattle.std.proofs.lemmas.Bool.{cases_lt, lt-ltb, le-ltb}
 use Rattle.std.proofs.lemmas.List.{drop_more, drop_all}
 use Rattle.mf_model.specs.States.{same_numbers, numbers_before}
-
-and-false : (b : Bool) → (b && false) ≡ false
-and-false true = refl
-and-false false = refl
 
 pub same_numbers-lengths : (ns ms : List ℕ) → (length ns ≡ length ms → ⊥) → false ≡ same_numbers ns ms
 same_numbers-lengths [] [] apart = absurd (apart refl)

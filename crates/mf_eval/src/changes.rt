@@ -1,11 +1,11 @@
 ghost use Rattle.mf_eval.specs.Fired.{change_of, changes_in};
 ghost use Rattle.mf_model.specs.Application.{changes_cell, divides_by_zero, is_apart, is_defined, is_sum_change, reads_old};
-ghost use Rattle.mf_model.specs.States.{look_of, same_numbers, value_at};
+ghost use Rattle.mf_model.specs.States.{look_of, value_at};
 ghost use Rattle.std.specs.List.{list_all};
-ghost use Rattle.std.specs.Prelude.{◌≡◌, ◌&&◌, filter, length, nat_eq};
+ghost use Rattle.std.specs.Prelude.{◌≡◌, filter, length};
 
 use crate::deed::Deed;
-use crate::order::is_same_objects;
+use crate::order::is_same_cell;
 use mf_fraction::{Frac, sign};
 use mf_model::{Cell, Op, PlainState, Valued};
 
@@ -61,18 +61,11 @@ pub(crate) fn value_of(values: &[Valued], cell: &Cell) -> Option<Frac>
     ensures { result ≡ value_at values.now cell.now.function cell.now.objects }
 {
     for valued in values {
-        if is_same(cell, &valued.cell) {
+        if is_same_cell(cell, &valued.cell) {
             return Some(valued.value);
         }
     }
     None
-}
-
-fn is_same(left: &Cell, right: &Cell) -> bool
-    ensures { result ≡ (nat_eq left.now.function right.now.function && same_numbers left.now.objects right.now.objects) }
-{
-    left.function == right.function
-        && is_same_objects(left.objects.as_slice(), right.objects.as_slice())
 }
 
 // Whether, for each term, the changes are increases and decreases alone, or exactly one.
@@ -128,7 +121,7 @@ fn is_change_of(deed: &Deed, cell: &Cell) -> bool
     match deed {
         Deed::Added(_) => false,
         Deed::Deleted(_) => false,
-        Deed::Changed { cell: changed, .. } => is_same(cell, changed),
+        Deed::Changed { cell: changed, .. } => is_same_cell(cell, changed),
     }
 }
 

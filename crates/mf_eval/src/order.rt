@@ -1,7 +1,7 @@
-ghost use Rattle.mf_model.specs.States.{atom_before, cell_before, numbers_before, same_atom, same_cell, same_numbers};
-ghost use Rattle.std.specs.Prelude.{◌≡◌};
+ghost use Rattle.mf_model.specs.States.{atom_before, cell_before, numbers_before, same_atom, same_numbers};
+ghost use Rattle.std.specs.Prelude.{◌≡◌, ◌&&◌, nat_eq};
 
-use mf_model::{Atom, Valued};
+use mf_model::{Atom, Cell, Valued};
 
 pub(crate) fn is_same_atom(left: &Atom, right: &Atom) -> bool
     ensures { result ≡ same_atom left.now right.now }
@@ -10,14 +10,14 @@ pub(crate) fn is_same_atom(left: &Atom, right: &Atom) -> bool
         && is_same_objects(left.objects.as_slice(), right.objects.as_slice())
 }
 
-pub(crate) fn is_same_cell(left: &Valued, right: &Valued) -> bool
-    ensures { result ≡ same_cell left.now right.now }
+pub(crate) fn is_same_cell(left: &Cell, right: &Cell) -> bool
+    ensures { result ≡ (nat_eq left.now.function right.now.function && same_numbers left.now.objects right.now.objects) }
 {
-    left.cell.function == right.cell.function
-        && is_same_objects(left.cell.objects.as_slice(), right.cell.objects.as_slice())
+    left.function == right.function
+        && is_same_objects(left.objects.as_slice(), right.objects.as_slice())
 }
 
-pub(crate) fn is_same_objects(left: &[u16], right: &[u16]) -> bool
+fn is_same_objects(left: &[u16], right: &[u16]) -> bool
     ensures { result ≡ same_numbers left.now right.now }
 {
     left == right

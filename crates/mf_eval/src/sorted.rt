@@ -81,7 +81,7 @@ fn place_of_value(values: &[Valued], valued: &Valued) -> Place
     ensures { IsValuePlace values.now valued.now result }
 {
     for (at, other) in values.iter().enumerate() {
-        if is_same_cell(valued, other) {
+        if is_same_cell(&valued.cell, &other.cell) {
             return Place::There(at);
         }
         if is_cell_before(valued, other) {

@@ -3,12 +3,12 @@ use Rattle.mf_model.specs.declared.task.Cond.{the_lemmas}
 use Rattle.mf_model.specs.Objects.{kinds_of}
 use Rattle.mf_model.specs.States.{look_of}
 use Rattle.mf_eval.specs.Scope.{scope_of}
-use Rattle.mf_eval.proofs.Judging.{judged-atom_arm, scope-within}
+use Rattle.mf_eval.proofs.Judging.{judged-atom_arm, within_greatest}
 use Rattle.mf_eval.proofs.condition.+judge.Goals as goal
 
 pub judge_parts-judge-requires : goal.judge_parts-judge-requires
 judge_parts-judge-requires t c =
-    let within = scope-within c.args.parts.now c.loop-part.part-index c.part-item.result c.loop-part-test.true in
+    let within = within_greatest scope_of c.args.parts.now c.loop-part.part-index c.part-item.result c.loop-part-test.true in
     let item = ap scope_of c.part-item.is in (
       search (rules, the_lemmas),
       (

@@ -5,13 +5,13 @@ use Rattle.mf_model.specs.Objects.{kinds_of}
 use Rattle.mf_model.specs.States.{look_of}
 use Rattle.mf_eval.specs.Fired.{changes_in}
 use Rattle.mf_eval.specs.Scope.{effect_scope_of}
-use Rattle.mf_eval.proofs.Judging.{effect_scope-within}
+use Rattle.mf_eval.proofs.Judging.{within_greatest}
 use Rattle.mf_eval.proofs.Threading.{threaded_fails, threaded_more}
 use Rattle.mf_eval.proofs.firing.+fire.Goals as goal
 
 pub fire_parts-fire-requires : goal.fire_parts-fire-requires
 fire_parts-fire-requires t c =
-    let within = effect_scope-within c.args.parts.now c.loop-part.part-index c.part-item.result c.loop-part-test.true in
+    let within = within_greatest effect_scope_of c.args.parts.now c.loop-part.part-index c.part-item.result c.loop-part-test.true in
     let item = ap effect_scope_of c.part-item.is in (
       search (rules, the_lemmas),
       (
