@@ -1,5 +1,5 @@
 -- Where no list of declarations goes beyond its limit, there are few names of each kind.
-use Rattle.std.proofs.Common.{◌≡◌, ℕ, ◌+◌, ◌-◌, ◌≤◌, Bool, true, false, ◌&&◌, if◌then◌else◌, nat_le, List, [], ◌∷◌, ◌++◌, map, length, refl, sym, ◌∙◌, arith, length-append}
+use Rattle.std.proofs.Common.{◌≡◌, ℕ, ◌+◌, ◌-◌, ◌≤◌, true, false, if◌then◌else◌, nat_le, List, [], ◌∷◌, ◌++◌, map, length, sym, ◌∙◌, arith, length-append}
 use Rattle.std.proofs.lemmas.Bool.Decides.{nat_tests}
 use Rattle.std.proofs.lemmas.List.{length-map}
 use Rattle.mf_model.specs.declared.form.FileKind.TheVariants.{DomainFile, ProblemFile}
@@ -9,12 +9,14 @@ use Rattle.mf_model.specs.declared.form.Header.{Header}
 use Rattle.mf_model.specs.declared.form.Domain.{Domain}
 use Rattle.mf_model.specs.declared.form.Problem.{Problem}
 use Rattle.mf_types.specs.Declarations.{beyond, repeats, list_faults, object_list_faults, item_words, header_words, action_words}
-use Rattle.mf_types.specs.DeclarationFaults.{type_list_faults, object_faults, header_list_faults, action_list_faults, declaration_faults_in}
+use Rattle.mf_types.specs.DeclarationFaults.{type_list_faults, header_list_faults, declaration_faults_in}
 use Rattle.mf_types.specs.Names.{Declared, declared_by, is_member, firsts, text_of, type_firsts, item_text, header_text, kept_types, type_names}
 use Rattle.mf_types.specs.Sites.{Site}
 use Rattle.mf_types.specs.Tables.{entered}
 use Rattle.mf_types.specs.Tasks.{are_few}
 use Rattle.mf_types.specs.Uses.{in_domain}
+use Rattle.mf_types.proofs.Faultless.{faultless_lists}
+use Rattle.mf_types.proofs.TaskReadings.{are_within}
 use Rattle.mf_types.proofs.There.{first_empty, second_empty}
 use Rattle.mf_types.proofs.ThereScopes.{few_words, if_true}
 
@@ -59,41 +61,24 @@ few_objects constants objects e =
     let second = few_words ProblemFile (65535 - length constants) objects (sym (if_true (nat_le (length constants) 65535) _ [] within) ∙ behind) in
     omega (arith, first, second)
 
-tested : (a b c d e : Bool) → a ≡ true → b ≡ true → c ≡ true → d ≡ true → e ≡ true → (a && b && c && d && e) ≡ true
-tested a b c d e h k l m n = rw (h, k, l, m, n) refl
-
-at_most : (n m : ℕ) → n ≤ m → nat_le n m ≡ true
-at_most n m h = grind (arith, nat_tests)
-
 pub few_declared : (d : Domain) (p : Problem) → declaration_faults_in (declared_by d p) d p ≡ [] → are_few (declared_by d p) d ≡ true
 few_declared d p e =
     let declared = declared_by d p in
     let site = in_domain declared in
-    let type_part = type_list_faults declared d.types in
-    let object_part = object_faults declared d.constants p.objects in
-    let predicate_part = header_list_faults site d.predicates in
-    let function_part = header_list_faults site d.functions in
-    let action_part = action_list_faults site d.actions in
-    let to_actions = first_empty ((((type_part ++ object_part) ++ predicate_part) ++ function_part) ++ action_part) _ e in
-    let to_functions = first_empty (((type_part ++ object_part) ++ predicate_part) ++ function_part) _ to_actions in
-    let to_predicates = first_empty ((type_part ++ object_part) ++ predicate_part) _ to_functions in
-    let to_objects = first_empty (type_part ++ object_part) _ to_predicates in
-    let types = first_empty type_part _ to_objects in
-    let objects = second_empty type_part _ to_objects in
-    let predicates = second_empty (type_part ++ object_part) _ to_predicates in
-    let functions = second_empty ((type_part ++ object_part) ++ predicate_part) _ to_functions in
-    let actions = second_empty (((type_part ++ object_part) ++ predicate_part) ++ function_part) _ to_actions in
+    let lists = faultless_lists declared d p e in
     let words = object_list_faults (item_words d.constants) (item_words p.objects) in
-    let list = few_objects (item_words d.constants) (item_words p.objects) (first_empty words _ (first_empty (words ++ _) _ objects)) in
+    let list = few_objects (item_words d.constants) (item_words p.objects) (first_empty words _ (first_empty (words ++ _) _ lists.objects)) in
     let constants_are = length-map d.constants (λ (item : Typed). item.word) in
     let objects_are = length-map p.objects (λ (item : Typed). item.word) in
     let both = length-append d.constants p.objects in
-    let action_list = first_empty (list_faults DomainFile 1000 (action_words d.actions)) _ actions in
+    let action_list = first_empty (list_faults DomainFile 1000 (action_words d.actions)) _ lists.actions in
     let action_count = few_words DomainFile 1000 (action_words d.actions) (second_empty (repeats DomainFile [] (action_words d.actions)) _ action_list) in
     let actions_are = length-map d.actions (λ a. a.word) in
-    tested (nat_le (length declared.types) 10001) (nat_le (length declared.objects) 65535) (nat_le (length declared.predicates) 10000) (nat_le (length declared.functions) 10000) (nat_le (length d.actions) 1000)
-    (at_most _ _ (few_types declared d.types types))
-    (at_most _ _ (few_names item_text (d.constants ++ p.objects) 65535 (omega (arith, list, constants_are, objects_are, both))))
-    (at_most _ _ (few_names header_text d.predicates 10000 (few_headers site d.predicates predicates)))
-    (at_most _ _ (few_names header_text d.functions 10000 (few_headers site d.functions functions)))
-    (at_most _ _ (omega (arith, action_count, actions_are)))
+    are_within declared d
+    (record {
+      types = few_types declared d.types lists.types;
+      objects = few_names item_text (d.constants ++ p.objects) 65535 (omega (arith, list, constants_are, objects_are, both));
+      predicates = few_names header_text d.predicates 10000 (few_headers site d.predicates lists.predicates);
+      functions = few_names header_text d.functions 10000 (few_headers site d.functions lists.functions);
+    })
+    (omega (arith, action_count, actions_are))

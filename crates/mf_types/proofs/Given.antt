@@ -14,6 +14,9 @@ pub given : {A : Type 0} (P : A → Type 0) (o : Option A) → ((x : A) → o �
 given P None h = tt
 given P (Some x) h = h x refl
 
+pub anything : {A : Type 0} (o : Option A) → IfGiven (λ _. Unit {0}) o
+anything o = given (λ _. Unit {0}) o (λ _ _. tt)
+
 pub taken : {A : Type 0} (P : A → Type 0) (o : Option A) (x : A) → o ≡ Some x → IfGiven P o → P x
 taken P None x e h = let no : ⊥ = cc in absurd no
 taken P (Some y) x e h = let same : y ≡ x = cc in subst (λ z. P z) same h

@@ -3,7 +3,9 @@ pub mod Ancestors
 pub mod Ascent
 pub mod EndZeros
 pub mod Examples
+pub mod Faultless
 pub mod FewNames
+pub mod FewParameters
 pub mod FirstValues
 pub mod Firsts
 pub mod Found

@@ -57,7 +57,7 @@ few declared d h =
     let tests = all_five (nat_le (length declared.types) 10001) (nat_le (length declared.objects) 65535) (nat_le (length declared.predicates) 10000) (nat_le (length declared.functions) 10000) (nat_le (length d.actions) 1000) h in
     (record { types = at_most _ _ tests.0; objects = at_most _ _ tests.1; predicates = at_most _ _ tests.2; functions = at_most _ _ tests.3 }, at_most _ _ tests.4)
 
-are_within : (declared : Declared) (d : Domain) → AreFew declared → length d.actions ≤ 1000 → are_few declared d ≡ true
+pub are_within : (declared : Declared) (d : Domain) → AreFew declared → length d.actions ≤ 1000 → are_few declared d ≡ true
 are_within declared d h k =
     tested (nat_le (length declared.types) 10001) (nat_le (length declared.objects) 65535) (nat_le (length declared.predicates) 10000) (nat_le (length declared.functions) 10000) (nat_le (length d.actions) 1000)
     (is_at_most _ _ h.types) (is_at_most _ _ h.objects) (is_at_most _ _ h.predicates) (is_at_most _ _ h.functions) (is_at_most _ _ k)

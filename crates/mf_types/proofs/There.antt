@@ -1,6 +1,7 @@
 -- Readings that give something, and lists of faults that are empty.
-use Rattle.std.proofs.Common.{◌≡◌, Bool, true, false, if◌then◌else◌, Option, Some, None, List, [], ◌∷◌, ◌++◌, refl}
+use Rattle.std.proofs.Common.{◌≡◌, Bool, true, false, if◌then◌else◌, Option, Some, None, List, [], ◌∷◌, ◌++◌, refl, All}
 use Rattle.std.specs.List.{flat_map}
+use Rattle.std.proofs.lemmas.List.Elements.{All-nil, All-cons}
 use Rattle.mf_model.specs.Options.{◌>>=◌, each}
 use Rattle.mf_types.specs.Typing.{both}
 
@@ -59,3 +60,8 @@ pub each_there : {A B F : Type 0} (read : A → Option B) (faults : A → List F
 each_there read faults h [] e = tt
 each_there read faults h (x ∷ xs) e =
     cons_there (read x) (each read xs) (h x (first_empty (faults x) (flat_map faults xs) e)) (each_there read faults h xs (second_empty (faults x) (flat_map faults xs) e))
+
+-- each of a list without faults has what one without faults has
+pub each_passes : {A F : Type 0} (P : A → Type 0) (faults : A → List F) → ((x : A) → faults x ≡ [] → P x) → (xs : List A) → flat_map faults xs ≡ [] → All P xs
+each_passes P faults h [] e = All-nil P
+each_passes P faults h (x ∷ xs) e = All-cons P x xs (h x (first_empty (faults x) _ e)) (each_passes P faults h xs (second_empty (faults x) _ e))

@@ -3,7 +3,7 @@ use Rattle.std.proofs.Common.{◌≡◌, ℕ, ◌<◌, ◌≤◌, ◌⊎◌, inl
 use Rattle.std.specs.List.{flat_map}
 use Rattle.std.proofs.lemmas.Bool.{cases_lt}
 use Rattle.std.proofs.lemmas.List.{length-map, get_or_past}
-use Rattle.std.proofs.lemmas.List.Elements.{All-nil, All-cons, All-head, All-get_or, All-append, All-map}
+use Rattle.std.proofs.lemmas.List.Elements.{All-head, All-get_or, All-append, All-map}
 use Rattle.std.proofs.lemmas.List.Folds.{list_any-append}
 use Rattle.mf_model.specs.declared.form.Domain.{Domain}
 use Rattle.mf_model.specs.declared.form.Problem.{Problem}
@@ -19,16 +19,17 @@ use Rattle.mf_types.specs.Ascent.{parent_at}
 use Rattle.mf_types.specs.AllFaults.{faults_of}
 use Rattle.mf_types.specs.Arguments.{unknown}
 use Rattle.mf_types.specs.Declarations.{beyond, item_words, most_symbols, object_list_faults, repeats}
-use Rattle.mf_types.specs.DeclarationFaults.{type_list_faults, object_faults, header_list_faults, action_list_faults, declaration_faults_in}
+use Rattle.mf_types.specs.DeclarationFaults.{object_faults, declaration_faults_in}
 use Rattle.mf_types.specs.Names.{Declared, declared_by, firsts, item_text, item_types, kept_types, numbers_by, numbers_of, parent_in, type_firsts, type_names, types_of}
 use Rattle.mf_types.specs.Quantified.{item_faults, type_word_faults}
 use Rattle.mf_types.specs.Sites.{Site}
 use Rattle.mf_types.specs.Tasks.{paired, type_named, object_named, IsTaskOf}
 use Rattle.mf_types.specs.Uses.{in_domain, in_problem}
+use Rattle.mf_types.proofs.Faultless.{faultless_lists}
 use Rattle.mf_types.proofs.Narrow.{AreBelow, types_below, are_numbers}
 use Rattle.mf_types.proofs.NoCycles.{no_cycle}
 use Rattle.mf_types.proofs.Repetition.{HasCycle, top_or_cycle}
-use Rattle.mf_types.proofs.There.{first_empty, second_empty, never}
+use Rattle.mf_types.proofs.There.{first_empty, second_empty, never, each_passes}
 use Rattle.mf_types.proofs.ValidTask.{paired_all, paired_length, firsts_all}
 
 -- Each declared type is declared, so an object has a type at least
@@ -51,10 +52,6 @@ types_there site some (w ∷ ws) e =
     let is : types_of names (w ∷ ws) ≡ found.0 ∷ numbers_of names ws = ap (λ (o : Option ℕ). numbers_by o (numbers_of names ws)) found.1 in
     let below = subst (AreBelow (length names)) is (types_below names some (w ∷ ws)) in
     record { first = found.0; others = numbers_of names ws; is = is; below = All-head (λ n. n < length names) found.0 (numbers_of names ws) below }
-
-each_passes : {A F : Type 0} (P : A → Type 0) (faults : A → List F) → ((x : A) → faults x ≡ [] → P x) → (xs : List A) → flat_map faults xs ≡ [] → All P xs
-each_passes P faults h [] e = All-nil P
-each_passes P faults h (x ∷ xs) e = All-cons P x xs (h x (first_empty (faults x) _ e)) (each_passes P faults h xs (second_empty (faults x) _ e))
 
 abbrev IsTyped : List (List ℕ) → Typed → Type 0
 IsTyped names item = HasType (length names) (item_types names item)
@@ -111,36 +108,19 @@ IsObject parents most o = IsTrue (meets (0 ∷ []) (flat_map (ancestors parents 
 abbrev HasKinds : List ℕ → ℕ → List object.Object → Type 0
 HasKinds parents most = All (IsObject parents most)
 
--- the faults of the types, and those of the objects
-list_parts : (d : Domain) (p : Problem) → faults_of d p ≡ [] → (type_list_faults (declared_by d p) d.types ≡ []) × (object_faults (declared_by d p) d.constants p.objects ≡ [])
-list_parts d p e =
-    let declared = declared_by d p in
-    let site = in_domain declared in
-    let types = type_list_faults declared d.types in
-    let objects = object_faults declared d.constants p.objects in
-    let predicates = header_list_faults site d.predicates in
-    let functions = header_list_faults site d.functions in
-    let actions = action_list_faults site d.actions in
-    let declarations = first_empty (declaration_faults_in declared d p) _ e in
-    let to_actions = first_empty ((((types ++ objects) ++ predicates) ++ functions) ++ actions) _ declarations in
-    let to_functions = first_empty (((types ++ objects) ++ predicates) ++ functions) _ to_actions in
-    let to_predicates = first_empty ((types ++ objects) ++ predicates) _ to_functions in
-    let to_objects = first_empty (types ++ objects) _ to_predicates in
-    (first_empty types _ to_objects, second_empty types _ to_objects)
-
 pub objects_have_top : (d : Domain) (p : Problem) (task : TypedTask) → faults_of d p ≡ [] → IsTaskOf d p task → All (λ kinds. IsTrue (meets (0 ∷ []) kinds)) (kinds_of task)
 objects_have_top d p task e is =
     let declared = declared_by d p in
     let names = type_names d.types in
     let parents = declared.parents in
-    let parts = list_parts d p e in
+    let lists = faultless_lists declared d p (first_empty (declaration_faults_in declared d p) _ e) in
     let own = repeats DomainFile [] (item_words (kept_types d.types)) ++ beyond DomainFile most_symbols (type_firsts d.types) in
-    let none = no_cycle declared d.types refl (second_empty own _ parts.0) in
+    let none = no_cycle declared d.types refl (second_empty own _ lists.types) in
     let count : length names ≡ length parents = sym (length-map names (parent_in names (kept_types d.types))) in
     let some : 0 < length names = omega arith in
     let below = subst (λ (n : ℕ). AreBelow n parents) count (are_numbers d p).parents in
     let items = firsts item_text [] (d.constants ++ p.objects) in
-    let typed : All (HasType (length names)) declared.object_types = All-map (HasType (length names)) (item_types names) items (objects_typed declared some d.constants p.objects parts.1) in
+    let typed : All (HasType (length names)) declared.object_types = All-map (HasType (length names)) (item_types names) items (objects_typed declared some d.constants p.objects lists.objects) in
     let has : HasKinds parents (length parents) (paired object_named declared.objects declared.object_types) =
     paired_all (HasType (length parents)) (IsObject parents (length parents)) object_named (λ a ts. meets_top parents below none ts) declared.objects declared.object_types (subst (λ (n : ℕ). All (HasType n) declared.object_types) count typed) in
     let types_are : objects.parents_of task ≡ parents = ap (λ ts. map (λ t. t.parent) ts) is.types ∙ paired_parents names parents count in

@@ -18,7 +18,7 @@ use Rattle.mf_types.specs.Valid as valid
 use Rattle.mf_types.specs.Valid.{Counts, is_valid_term, is_valid_expr}
 use Rattle.mf_types.specs.Written as written
 use Rattle.mf_types.specs.Written.{is_written_expr}
-use Rattle.mf_types.proofs.Given.{IfGiven, Read, given, then_given, made_given, both_given, parts_given, all_map, and_true, first_true, second_true}
+use Rattle.mf_types.proofs.Given.{IfGiven, Read, anything, then_given, made_given, both_given, parts_given, all_map, and_true, first_true, second_true}
 use Rattle.mf_types.proofs.ValidTerms.{counted, AreEven, terms_valid, symbol_valid, use_valid, number_below, counts_at, lt_of}
 
 pub rolled : (counts : Counts) (timed : Bool) (variables : ℕ) (whole : Expr) (y : Expr-F Expr) → roll-Expr y ≡ whole → is_valid_expr counts timed variables whole ≡ valid.expr_step counts timed variables (map-Expr Expr Bool (is_valid_expr counts timed variables) y)
@@ -68,7 +68,7 @@ module _ (declared : Declared) (even : AreEven declared) (timed : Bool) where
   level : (y : RawExpr-F Piece) → Layer (map-RawExpr Piece RawExpr raw_of y)
   unfolding Layer
   level (RawExpr-F.Number word span) binders e =
-      made_given (λ _. Unit {0}) (Valid (length binders)) x.Number (number_in word) (given (λ _. Unit {0}) (number_in word) (λ _ _. tt)) (λ n _.
+      made_given (λ _. Unit {0}) (Valid (length binders)) x.Number (number_in word) (anything (number_in word)) (λ n _.
       rolled (counted declared) timed (length binders) (x.Number n) (Expr-F.Number n) (x.rolls-Number n))
   level (RawExpr-F.Function function terms span) binders e =
       let counts = counted declared in

@@ -23,7 +23,7 @@ use Rattle.mf_types.specs.Tasks.{paired, type_named, object_named, symbol_named,
 use Rattle.mf_types.specs.Typing.{inside, types_in, predicate_of, function_of, number_in, expr_of, cond_of, effect_of}
 use Rattle.mf_types.specs.Valid.{Counts, counts_of, parameter_count, are_types, are_type_lists, is_valid_expr, is_valid_cond, is_valid_effect, IsValidAction, is_valid_atom, is_valid_value, IsValidTask}
 use Rattle.mf_types.specs.Written.{is_written_cond, is_written_effect, is_written_action, is_written_metric, IsWritten}
-use Rattle.mf_types.proofs.Given.{IfGiven, Read, given, taken, then_given, made_given, each_all, first_true, second_true}
+use Rattle.mf_types.proofs.Given.{IfGiven, Read, anything, taken, then_given, made_given, each_all, first_true, second_true}
 use Rattle.mf_types.proofs.Narrow.{every, are_numbers}
 use Rattle.mf_types.proofs.ValidTerms.{counted, AreEven, objects_valid, symbol_valid, ground_valid}
 use Rattle.mf_types.proofs.ValidExpressions.{expr_valid}
@@ -33,7 +33,7 @@ use Rattle.mf_types.proofs.TaskReadings.{at_most}
 
 -- lists
 
-each_written : {A B : Type 0} (W : A → Type 0) (P : B → Type 0) (f : A → Option B) → ((x : A) → W x → IfGiven P (f x)) → (xs : List A) → All W xs → IfGiven (All P) (each f xs)
+pub each_written : {A B : Type 0} (W : A → Type 0) (P : B → Type 0) (f : A → Option B) → ((x : A) → W x → IfGiven P (f x)) → (xs : List A) → All W xs → IfGiven (All P) (each f xs)
 each_written W P f h [] all = All-nil P
 each_written W P f h (x ∷ xs) all =
     then_given P (All P) (f x) _ (h x (All-head W x xs all)) (λ y here.
@@ -61,7 +61,7 @@ each_count f xs ys e = taken (λ zs. length zs ≡ length xs) (each f xs) ys e (
     counts_given : {A B : Type 0} (f : A → Option B) (xs : List A) → IfGiven (λ zs. length zs ≡ length xs) (each f xs)
     counts_given f [] = refl
     counts_given f (x ∷ xs) =
-        then_given (λ _. Unit {0}) (λ zs. length zs ≡ length (x ∷ xs)) (f x) _ (given (λ _. Unit {0}) (f x) (λ _ _. tt)) (λ y _.
+        then_given (λ _. Unit {0}) (λ zs. length zs ≡ length (x ∷ xs)) (f x) _ (anything (f x)) (λ y _.
         made_given (λ zs. length zs ≡ length xs) (λ zs. length zs ≡ length (x ∷ xs)) (λ ys. y ∷ ys) (each f xs) (counts_given f xs) (λ ys h. ap suc h))
 
 pub firsts_all : {A : Type 0} (P : A → Type 0) (name : A → List ℕ) (seen : List (List ℕ)) (xs : List A) → All P xs → All P (firsts name seen xs)
@@ -135,7 +135,7 @@ module _ (declared : Declared) (even : AreEven declared) (some : 0 < length decl
       then_given (λ n. takes (slice_get counts.functions n) (length raw.objects) ≡ true) P (function_of declared raw.function.text (length raw.objects)) _
       (symbol_valid declared.functions declared.function_types raw.function.text (length raw.objects) even.functions) (λ n count.
       then_given (Read (λ k. nat_lt k (length declared.objects)) raw.objects) P (objects_of declared raw.objects) _ (objects_valid declared raw.objects) (λ os read.
-      made_given (λ _. Unit {0}) P (λ number. record { cell = record { function = n; objects = os }; value = number }) (number_in raw.value) (given (λ _. Unit {0}) (number_in raw.value) (λ _ _. tt)) (λ number _.
+      made_given (λ _. Unit {0}) P (λ number. record { cell = record { function = n; objects = os }; value = number }) (number_in raw.value) (anything (number_in raw.value)) (λ number _.
       ground_valid counts.functions declared n raw.objects os count read)))
 
   values_valid : (raws : List RawValue) → IfGiven (All (λ v. is_valid_value counts v ≡ true)) (values_of declared raws)

@@ -4,6 +4,7 @@ ghost use Rattle.mf_model.specs.declared.form.Problem.{Problem};
 ghost use Rattle.mf_model.specs.declared.task.TypedTask.{TypedTask};
 ghost use Rattle.mf_model.specs.Objects.{HaveTopType};
 ghost use Rattle.mf_types.specs.AllFaults.{faults_of};
+ghost use Rattle.mf_types.specs.Limits.{HaveFewParameters};
 ghost use Rattle.mf_types.specs.Tasks.{IsTaskOf};
 ghost use Rattle.mf_types.specs.Valid.{IsValidTask};
 ghost use Rattle.mf_types.specs.Written.{IsWritten};
@@ -26,4 +27,9 @@ pub fn task_is_valid()
 /// Each object of the task of two files without faults has the type `object`, from which all types descend.
 pub fn objects_have_the_top_type()
     ensures { (d : Domain) (p : Problem) (task : TypedTask) → faults_of d p ≡ [] → IsTaskOf d p task → HaveTopType task }
+{}
+
+/// The predicates, functions and actions of two files without faults have at most 32 parameters each.
+pub fn parameters_are_few()
+    ensures { (d : Domain) (p : Problem) (task : TypedTask) → faults_of d p ≡ [] → IsTaskOf d p task → HaveFewParameters task }
 {}
