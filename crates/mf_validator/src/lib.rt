@@ -4,7 +4,7 @@
 mod directory;
 mod fault;
 mod judging;
-pub mod laws;
+mod laws;
 mod line;
 mod piece;
 mod reading;
@@ -14,6 +14,7 @@ mod word;
 
 pub use fault::{JudgeFault, PlanFault};
 pub use judging::judge;
+pub use laws::{plans_are_valid, verdicts_are_exact, width_is_exact};
 pub use mf_eval::Why;
 pub use reading::read_plan;
 pub use verdict::{Reported, Verdict};
