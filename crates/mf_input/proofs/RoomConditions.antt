@@ -13,7 +13,7 @@ use Rattle.mf_model.specs.declared.task.Cond.TheFolds.{fold-roll-Cond, map-Cond}
 use Rattle.mf_model.specs.Options.{all_some}
 use Rattle.mf_types.specs.Names.{Declared, item_types}
 use Rattle.mf_types.specs.Typing.{Binders, inside, within, types_in, predicate_of, term_of, terms_of, expr_of, cond_step, cond_of}
-use Rattle.mf_types.proofs.Given.{IfGiven, given, then_given, made_given, both_given}
+use Rattle.mf_types.proofs.Given.{IfGiven, anything, then_given, made_given, both_given}
 use Rattle.mf_types.proofs.TaskReadings.{at_most}
 use Rattle.mf_types.proofs.ValidConditions.{HasRoom, inside_valid}
 use Rattle.mf_eval.specs.Scope.{greatest, scope_step, scope_of}
@@ -28,9 +28,6 @@ fits_same n scope other e h = omega (arith, e, h)
 
 pub fits_max : (n left right : ℕ) → n + left ≤ 64 → n + right ≤ 64 → n + max left right ≤ 64
 fits_max n left right h k = omega (arith, h, k)
-
-pub anything : {A : Type 0} (o : Option A) → IfGiven (λ _. Unit {0}) o
-anything o = given (λ _. Unit {0}) o (λ _ _. tt)
 
 -- parts
 

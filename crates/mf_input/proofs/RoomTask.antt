@@ -1,17 +1,14 @@
 -- Each task of two files leaves room for its variables.
-use Rattle.std.proofs.Common.{◌≡◌, ℕ, ◌+◌, ◌≤◌, max, true, Option, Some, List, [], ◌∷◌, length, refl, ap, All, arith}
+use Rattle.std.proofs.Common.{◌≡◌, ℕ, ◌+◌, ◌≤◌, max, Some, List, [], length, All, arith}
 use Rattle.std.proofs.lemmas.List.{length-map}
 use Rattle.mf_model.specs.declared.form.RawAction.{RawAction}
-use Rattle.mf_model.specs.declared.form.Domain.{Domain}
-use Rattle.mf_model.specs.declared.form.Problem.{Problem}
 use Rattle.mf_model.specs.declared.task.Action.{Action}
 use Rattle.mf_model.specs.declared.task.TypedTask.{TypedTask}
-use Rattle.mf_model.specs.Options.{each}
 use Rattle.mf_types.specs.Names.{Declared, declared_by, item_types}
 use Rattle.mf_types.specs.Typing.{inside, types_in, cond_of, effect_of}
-use Rattle.mf_types.specs.Tasks.{paired, object_named, action_of, IsTaskOf}
-use Rattle.mf_types.proofs.Given as given
-use Rattle.mf_types.proofs.Given.{IfGiven, Read, taken, then_given, made_given, each_given, each_all}
+use Rattle.mf_types.specs.Tasks.{action_of}
+use Rattle.mf_types.proofs.Given.{IfGiven, taken, then_given, made_given, each_all}
+use Rattle.mf_types.proofs.FewParameters.{parameters_few}
 use Rattle.mf_types.proofs.TaskReadings.{at_most}
 use Rattle.mf_types.proofs.ValidConditions as inside
 use Rattle.mf_types.proofs.ValidConditions.{inside_valid}
@@ -20,16 +17,7 @@ use Rattle.mf_input.specs.Files.{IsTaskOfFiles}
 use Rattle.mf_input.specs.Limits.{IsWithinLimits}
 use Rattle.mf_input.proofs.RoomConditions.{cond_fits}
 use Rattle.mf_input.proofs.RoomEffects.{effect_fits}
-
--- counts
-
-pairs_few : {A B C : Type 0} (f : A → B → C) (xs : List A) (ys : List B) → length (paired f xs ys) ≤ length xs
-pairs_few f [] ys = omega arith
-pairs_few f (x ∷ xs) [] = omega arith
-pairs_few f (x ∷ xs) (y ∷ ys) = let rest = pairs_few f xs ys in omega (arith, rest)
-
-each_count : {A B : Type 0} (f : A → Option B) (xs : List A) (ys : List B) → each f xs ≡ Some ys → length ys ≡ length xs
-each_count f xs ys e = (taken (Read (λ _. true) xs) (each f xs) ys e (each_given (λ _. true) f (λ x. given.given (λ _. true ≡ true) (f x) (λ _ _. refl)) xs)).count
+use Rattle.mf_input.proofs.ValidFiles.{files_valid}
 
 -- actions
 
@@ -58,20 +46,16 @@ action_fits declared raw =
 without_parameters : (scope : ℕ) → 0 + scope ≤ 64 → scope ≤ 64
 without_parameters scope h = omega (arith, h)
 
-task_fits : (d : Domain) (p : Problem) (task : TypedTask) → IsTaskOf d p task → IsWithinLimits task
-task_fits d p task is =
-    let declared = declared_by d p in
-    let object_limit = is.few.objects in
-    let action_limit = is.few_actions in
-    let objects_few : length (paired object_named declared.objects declared.object_types) ≤ length declared.objects = pairs_few object_named declared.objects declared.object_types in
-    let objects_are : length task.objects ≡ length (paired object_named declared.objects declared.object_types) = ap length is.objects in
-    let action_count = each_count (action_of declared) d.actions task.actions is.actions in
-    record {
-      objects = omega (arith, objects_are, objects_few, object_limit);
-      actions = omega (arith, action_count, action_limit);
-      variables = taken (All Fits) (each (action_of declared) d.actions) task.actions is.actions (each_all Fits (action_of declared) (action_fits declared) d.actions);
-      goal = without_parameters (scope_of task.goal) (taken (λ a. 0 + scope_of a ≤ 64) (cond_of declared p.goal []) task.goal is.goal (cond_fits declared p.goal [] (omega arith)));
-    }
-
 pub files_fit : (domain problem : List ℕ) (task : TypedTask) → IsTaskOfFiles domain problem task → IsWithinLimits task
-files_fit domain problem task is = task_fits is.domain is.problem task is.task_of
+files_fit domain problem task is =
+    let declared = declared_by is.domain is.problem in
+    let resolved = is.task_of in
+    let goal = is.problem.goal in
+    let valid = files_valid domain problem task is in
+    record {
+      objects = valid.object_limit;
+      actions = valid.action_limit;
+      parameters = parameters_few is.domain is.problem task is.faultless resolved;
+      variables = taken (All Fits) _ task.actions resolved.actions (each_all Fits (action_of declared) (action_fits declared) is.domain.actions);
+      goal = without_parameters (scope_of task.goal) (taken (λ a. 0 + scope_of a ≤ 64) (cond_of declared goal []) task.goal resolved.goal (cond_fits declared goal [] (omega arith)));
+    }

@@ -15,8 +15,8 @@ pub fn task_is_unique()
     ensures { (domain problem : List ℕ) (left right : TypedTask) → IsTaskOfFiles domain problem left → IsTaskOfFiles domain problem right → left ≡ right }
 {}
 
-/// The task of two files has at most 65,535 objects and 1,000 actions, and at most 64 variables are in scope at any
-/// place.
+/// The task of two files has at most 65,535 objects and 1,000 actions, at most 32 parameters at each predicate, function
+/// and action, and at most 64 variables are in scope at any place.
 pub fn task_is_within_limits()
     ensures { (domain problem : List ℕ) (task : TypedTask) → IsTaskOfFiles domain problem task → IsWithinLimits task }
 {}
