@@ -15,7 +15,7 @@ use Rattle.mf_model.specs.declared.state.Instance.{Instance}
 use Rattle.mf_model.specs.declared.state.PlainState.{PlainState}
 use Rattle.mf_model.specs.Application.{is_applicable, next_state, firing_of}
 use Rattle.mf_model.specs.Objects.{kinds_of}
-use Rattle.mf_plain.specs.PlainTask.{IsPlainAction, IsPlainTask}
+use Rattle.mf_plain.specs.SearchTask.{IsSearchAction, IsSearchTask}
 use Rattle.mf_model.specs.States.{look_of, with_atom, without_atom}
 use Rattle.mf_plain.specs.Conjunctions.{is_conjunction, needs_of, all_needs}
 use Rattle.mf_plain.specs.Changes.{only_changes_atoms, adds_of, deletes_of}
@@ -28,10 +28,10 @@ pub record IsSimple (action : Action) : Type 0 where
   pub condition : is_conjunction action.condition ≡ true
   pub effect : only_changes_atoms action.effect ≡ true
 
-pub simple_action : (task : TypedTask) (n : ℕ) (action : Action) → IsPlainTask task → Some action ≡ slice_get task.actions n → IsSimple action
+pub simple_action : (task : TypedTask) (n : ℕ) (action : Action) → IsSearchTask task → Some action ≡ slice_get task.actions n → IsSimple action
 simple_action task n action plain e =
     let h = slice_get_within task.actions n action (sym e) in
-    let p = subst (IsPlainAction task.predicates (length task.objects)) (get_or_from_slice_get task.actions n action action (sym e)) (All-get_or (IsPlainAction task.predicates (length task.objects)) task.actions n action h plain.actions) in
+    let p = subst (IsSearchAction task.predicates (length task.objects)) (get_or_from_slice_get task.actions n action action (sym e)) (All-get_or (IsSearchAction task.predicates (length task.objects)) task.actions n action h plain.actions) in
     record {
       condition = plain_is_conjunction task.predicates (length action.parameters) (length task.objects) action.condition p.condition;
       effect = plain_only_changes task.predicates (length action.parameters) (length task.objects) action.effect p.effect;

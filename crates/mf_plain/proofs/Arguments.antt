@@ -12,7 +12,8 @@ use Rattle.mf_model.specs.declared.task.TypedTask.{TypedTask}
 use Rattle.mf_model.specs.declared.state.Instance.{Instance}
 use Rattle.mf_model.specs.Application.{instances_from}
 use Rattle.mf_model.specs.Objects.{HaveTopType, ancestors, bindings, having, kinds_of, meets, member, parents_of}
-use Rattle.mf_plain.specs.PlainTask.{IsObjectType, IsPlainAction, IsPlainTask}
+use Rattle.mf_plain.specs.PlainTask.{IsObjectType}
+use Rattle.mf_plain.specs.SearchTask.{IsSearchAction, IsSearchTask}
 use Rattle.mf_plain.specs.Listing.{numbers_from, with_next, extended, of_action}
 use Rattle.mf_plain.proofs.Placing.{drop_at_read}
 
@@ -85,8 +86,8 @@ arguments_last kinds parameters i fronts h = rw (drop_all i parameters h) (flat_
 pub instances_step : (kinds : List (List ℕ)) (actions : List Action) (action : Action) (i : ℕ) (out : List Instance) (fronts : List (List ℕ)) → i < length actions → action ≡ get_or actions i action → fronts ≡ bindings kinds action.parameters [] → (out ++ of_action i fronts) ++ instances_from kinds (i + 1) (drop (i + 1) actions) ≡ out ++ instances_from kinds i (drop i actions)
 instances_step kinds actions action i out fronts h e f = rw (drop_at_read actions i action h e, f) (append_assoc out (of_action i (bindings kinds action.parameters [])) (instances_from kinds (i + 1) (drop (i + 1) actions)))
 
-pub plain_parameters : (task : TypedTask) (action : Action) (i : ℕ) → IsPlainTask task → i < length task.actions → action ≡ get_or task.actions i action → All IsObjectType action.parameters
-plain_parameters task action i plain h e = rw e (All-get_or (IsPlainAction task.predicates (length task.objects)) task.actions i action h plain.actions).types
+pub plain_parameters : (task : TypedTask) (action : Action) (i : ℕ) → IsSearchTask task → i < length task.actions → action ≡ get_or task.actions i action → All IsObjectType action.parameters
+plain_parameters task action i plain h e = rw e (All-get_or (IsSearchAction task.predicates (length task.objects)) task.actions i action h plain.actions).types
 
 -- the same, as the loop finds it
 pub arguments_next : (task : TypedTask) (parameters : List (List ℕ)) (types : List ℕ) (i count : ℕ) (fronts seen next : List (List ℕ)) → HaveTopType task → All IsObjectType parameters → i < length parameters → types ≡ get_or parameters i types → count ≡ length task.objects → seen ≡ fronts → next ≡ extended (numbers_from 0 count) seen → flat_map (bindings (kinds_of task) (drop (i + 1) parameters)) next ≡ flat_map (bindings (kinds_of task) (drop i parameters)) fronts
@@ -101,7 +102,7 @@ next_made start out next front copied pushed object h copy push made =
     rw (made, push, copy, h, next_push front object) (append_assoc start (with_next (numbers_from 0 object) front) ((front ++ object ∷ []) ∷ []))
 
 -- the same, as the loops find it
-pub listed_parameters : (task : TypedTask) (actions : List Action) (action : Action) (parameters : List (List ℕ)) (i : ℕ) → IsPlainTask task → actions ≡ task.actions → i < length actions → action ≡ get_or actions i action → parameters ≡ action.parameters → All IsObjectType parameters
+pub listed_parameters : (task : TypedTask) (actions : List Action) (action : Action) (parameters : List (List ℕ)) (i : ℕ) → IsSearchTask task → actions ≡ task.actions → i < length actions → action ≡ get_or actions i action → parameters ≡ action.parameters → All IsObjectType parameters
 listed_parameters task actions action parameters i plain same h e p = rw p (plain_parameters task action i plain (subst (λ (xs : List Action). i < length xs) same h) (subst (λ (xs : List Action). action ≡ get_or xs i action) same e))
 
 pub instances_next : (kinds : List (List ℕ)) (actions : List Action) (action : Action) (parameters : List (List ℕ)) (i : ℕ) (out next : List Instance) (fronts : List (List ℕ)) → i < length actions → action ≡ get_or actions i action → parameters ≡ action.parameters → fronts ≡ bindings kinds parameters [] → next ≡ out ++ of_action i fronts → next ++ instances_from kinds (i + 1) (drop (i + 1) actions) ≡ out ++ instances_from kinds i (drop i actions)

@@ -6,7 +6,7 @@ use Rattle.mf_model.specs.declared.task.TypedTask.{TypedTask}
 use Rattle.mf_model.specs.declared.state.Instance.{Instance}
 use Rattle.mf_model.specs.declared.state.PlainState.{PlainState}
 use Rattle.mf_model.specs.Application.{instances_of, is_applicable, next_state}
-use Rattle.mf_plain.specs.PlainTask.{IsPlainTask}
+use Rattle.mf_plain.specs.SearchTask.{IsSearchTask}
 use Rattle.mf_model.specs.Plans.{is_goal, IsValidFrom}
 use Rattle.mf_search.specs.Space.{Child}
 use Rattle.mf_search.specs.Answers.{Walk, LeadsToGoal}
@@ -82,7 +82,7 @@ walk_is_numbered task x (n ∷ numbers) y walk =
     All-cons (λ m. m < length (instances_of task)) n numbers (let a = walk.2 in let b = k.named in omega arith) (walk_is_numbered task walk.0.state numbers y walk.3)
 
 -- Instances that are applicable in turn and reach the goal are a walk.
-pub valid_is_walk : (task : TypedTask) (x : PlainState) (steps : List Instance) → IsPlainTask task → IsValidFrom task x steps → LeadsToGoal (space_of task) x
+pub valid_is_walk : (task : TypedTask) (x : PlainState) (steps : List Instance) → IsSearchTask task → IsValidFrom task x steps → LeadsToGoal (space_of task) x
 valid_is_walk task x [] plain valid = ([], (x, refl, ap (λ n. Some n) ((zero_is_goal task x plain).1 valid)))
 valid_is_walk task x (s ∷ steps) plain valid =
     let k = valid.0 in

@@ -10,7 +10,7 @@ use Rattle.std.proofs.lemmas.Map.Steps.{length-le_from_distinct_below}
 use Rattle.mf_model.specs.declared.task.TypedTask.{TypedTask}
 use Rattle.mf_model.specs.declared.state.Instance.{Instance}
 use Rattle.mf_model.specs.declared.state.PlainState.{PlainState}
-use Rattle.mf_plain.specs.PlainTask.{IsPlainTask}
+use Rattle.mf_plain.specs.SearchTask.{IsSearchTask}
 use Rattle.mf_model.specs.Plans.{IsPlan}
 use Rattle.mf_model.specs.States.{start_of}
 use Rattle.mf_search.specs.declared.status.Status.{Status}
@@ -32,7 +32,7 @@ answers_as task budget searched status s e = subst (Answers budget (world_of tas
 finite : (task : TypedTask) → InfiniteIsDead (space_of task)
 finite task x e leads = absurd (cc)
 
-pub no_plan_found : (task : TypedTask) (budget : ℕ) (searched : Searched) → IsPlainTask task → IsSearched task budget searched → searched.status ≡ NoPlan → (steps : List Instance) → IsPlan task steps → ⊥
+pub no_plan_found : (task : TypedTask) (budget : ℕ) (searched : Searched) → IsSearchTask task → IsSearched task budget searched → searched.status ≡ NoPlan → (steps : List Instance) → IsPlan task steps → ⊥
 no_plan_found task budget searched plain s e steps valid =
     no_plan_is_right (space_of task) budget 1 searched.history.entries s.legal (answers_as task budget searched NoPlan s e) (finite task) (valid_is_walk task (start_of task) steps plain valid)
 

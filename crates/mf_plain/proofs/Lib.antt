@@ -13,4 +13,4 @@ pub mod Bridge
 pub mod Lawful
 pub mod TraceLaws
 pub mod OpeningChildren
-pub mod PlainTests
+pub mod SearchTests

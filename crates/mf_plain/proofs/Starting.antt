@@ -5,7 +5,7 @@ use Rattle.mf_model.specs.declared.task.Atom.{Atom}
 use Rattle.mf_model.specs.declared.task.Valued.{Valued}
 use Rattle.mf_model.specs.declared.task.TypedTask.{TypedTask}
 use Rattle.mf_model.specs.declared.state.PlainState.{PlainState}
-use Rattle.mf_plain.specs.PlainTask.{IsPlainTask}
+use Rattle.mf_plain.specs.SearchTask.{IsSearchTask}
 use Rattle.mf_model.specs.States.{start_of, with_atom}
 use Rattle.mf_search.specs.declared.entry.Entry.{Entry}
 use Rattle.mf_search.specs.declared.maker.Maker.{Maker}
@@ -17,7 +17,7 @@ use Rattle.mf_plain.specs.declared.progress.Progress.{Progress}
 use Rattle.mf_plain.specs.GoalCount.{goal_count}
 use Rattle.mf_plain.specs.UnderWay.{IsUnderWay}
 
-pub start_is : (task : TypedTask) (state : PlainState) (given atoms : List Atom) (values : List Valued) → IsPlainTask task → given ≡ task.atoms → atoms ≡ fold with_atom [] given → values ≡ [] → state ≡ record { atoms = atoms; values = values } → state ≡ start_of task
+pub start_is : (task : TypedTask) (state : PlainState) (given atoms : List Atom) (values : List Valued) → IsSearchTask task → given ≡ task.atoms → atoms ≡ fold with_atom [] given → values ≡ [] → state ≡ record { atoms = atoms; values = values } → state ≡ start_of task
 start_is task state given atoms values plain g a v e = rw (e, a, g, v, plain.values) refl
 
 pub started : (task : TypedTask) (budget value : ℕ) (state : PlainState) (rows : List PlainState) (values : List ℕ) (makers : List Maker) (entries : List Entry) (flags : List Bool) (progress : Progress) → rows ≡ [] → values ≡ [] → makers ≡ [] → entries ≡ [] → flags ≡ [] → state ≡ start_of task → value ≡ goal_count task state →

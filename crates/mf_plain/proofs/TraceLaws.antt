@@ -7,7 +7,7 @@ use Rattle.mf_model.specs.declared.task.TypedTask.{TypedTask}
 use Rattle.mf_model.specs.declared.state.Instance.{Instance}
 use Rattle.mf_model.specs.declared.state.PlainState.{PlainState}
 use Rattle.mf_model.specs.Application.{instances_of}
-use Rattle.mf_plain.specs.PlainTask.{IsPlainTask}
+use Rattle.mf_plain.specs.SearchTask.{IsSearchTask}
 use Rattle.mf_model.specs.Plans.{IsPlan}
 use Rattle.mf_model.specs.States.{start_of}
 use Rattle.mf_search.specs.declared.maker.Maker.{Maker}
@@ -76,7 +76,7 @@ plan_walk task budget searched goal s found = plan_is_right (space_of task) budg
 pub plan_numbered : (task : TypedTask) (budget : ℕ) (searched : Searched) (goal : ℕ) → IsSearched task budget searched → searched.status ≡ Plan goal → All (λ n. n < length (instances_of task)) (plan_to (space_of task) (opened_of task searched) goal)
 plan_numbered task budget searched goal s found = let p = plan_walk task budget searched goal s found in walk_is_numbered task (start_of task) (plan_to (space_of task) (opened_of task searched) goal) p.0 p.1
 
-pub plan_traced : (task : TypedTask) (budget : ℕ) (searched : Searched) (goal : ℕ) (steps : List Instance) → IsPlainTask task → IsSearched task budget searched → searched.status ≡ Plan goal → map Some steps ≡ map (slice_get (instances_of task)) (plan_to (space_of task) (opened_of task searched) goal) → IsPlan task steps × IsTrace task searched steps
+pub plan_traced : (task : TypedTask) (budget : ℕ) (searched : Searched) (goal : ℕ) (steps : List Instance) → IsSearchTask task → IsSearched task budget searched → searched.status ≡ Plan goal → map Some steps ≡ map (slice_get (instances_of task)) (plan_to (space_of task) (opened_of task searched) goal) → IsPlan task steps × IsTrace task searched steps
 plan_traced task budget searched goal steps plain s found traced =
     let p = plan_walk task budget searched goal s found in
     let zero_value : goal_count task p.0 ≡ 0 = same_Some (goal_count task p.0) 0 p.2 in (

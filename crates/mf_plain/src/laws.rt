@@ -1,6 +1,6 @@
 //! What is known of every search of a task.
 ghost use Rattle.std.specs.Prelude.{◌≡◌, ◌<◌, ℕ, List, length};
-ghost use Rattle.mf_plain.specs.PlainTask.{IsPlainTask};
+ghost use Rattle.mf_plain.specs.SearchTask.{IsSearchTask};
 ghost use Rattle.mf_model.specs.Plans.{IsPlan};
 ghost use Rattle.mf_model.specs.declared.state.Instance.{Instance};
 ghost use Rattle.mf_model.specs.declared.task.TypedTask.{TypedTask};
@@ -12,7 +12,7 @@ ghost use Rattle.mf_plain.specs.declared.history.Searched.{Searched};
 
 /// Where a search answers that there is no plan, no list of instances is one.
 pub fn no_plan_exists()
-    ensures { (task : TypedTask) (budget : ℕ) (searched : Searched) → IsPlainTask task → IsSearched task budget searched → searched.status ≡ NoPlan → (steps : List Instance) → IsPlan task steps → ⊥ }
+    ensures { (task : TypedTask) (budget : ℕ) (searched : Searched) → IsSearchTask task → IsSearched task budget searched → searched.status ≡ NoPlan → (steps : List Instance) → IsPlan task steps → ⊥ }
 {}
 
 /// The taken states, in order, are a run of greedy best-first search.

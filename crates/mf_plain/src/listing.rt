@@ -1,7 +1,8 @@
 ghost use Rattle.std.specs.Prelude.{◌≡◌, [], ◌++◌, IfOk, OnOk, All};
 ghost use Rattle.mf_model.specs.Application.{instances_of};
 ghost use Rattle.mf_model.specs.Objects.{HaveTopType, bindings, kinds_of};
-ghost use Rattle.mf_plain.specs.PlainTask.{IsObjectType, IsPlainTask};
+ghost use Rattle.mf_plain.specs.PlainTask.{IsObjectType};
+ghost use Rattle.mf_plain.specs.SearchTask.{IsSearchTask};
 ghost use Rattle.mf_plain.specs.Listing.{numbers_from, with_next, extended, of_action};
 
 use crate::Memory;
@@ -42,7 +43,7 @@ fn arguments(
     task: &TypedTask,
     parameters: &[Types],
 ) -> Result<List<List<u16>>, Memory>
-    requires plain { IsPlainTask task.now }
+    requires searchable { IsSearchTask task.now }
     requires objects { HaveTopType task.now }
     requires types { All IsObjectType parameters.now }
     ensures { IfOk result (λ list. list ≡ bindings (kinds_of task.now) parameters.now []) }
@@ -68,7 +69,7 @@ fn list_action(action: u16, fronts: List<List<u16>>, out: &mut List<Instance>) -
 
 /// All instances of the task: by action, then by argument list in lexicographic order.
 pub(crate) fn instances(alloc: Global, task: &TypedTask) -> Result<List<Instance>, Memory>
-    requires plain { IsPlainTask task.now }
+    requires searchable { IsSearchTask task.now }
     requires objects { HaveTopType task.now }
     ensures { IfOk result (λ list. list ≡ instances_of task.now) }
 {

@@ -1,6 +1,6 @@
 ghost use Rattle.std.specs.Prelude.{◌≡◌, ◌<◌, ℕ, [], ◌∷◌, ◌++◌, false, true, List, map, vec_len, slice_set, OnOk};
 ghost use Rattle.std.specs.List.{list_any};
-ghost use Rattle.mf_plain.specs.PlainTask.{IsPlainTask};
+ghost use Rattle.mf_plain.specs.SearchTask.{IsSearchTask};
 ghost use Rattle.mf_model.specs.declared.state.PlainState.{PlainState};
 ghost use Rattle.mf_search.specs.World.{Opened, open_child, open_all};
 ghost use Rattle.mf_search.specs.declared.entry.Entry.TheVariants.{Take};
@@ -72,7 +72,7 @@ fn open_successor(
     parent: usize,
     successor: Successor,
 ) -> Result<(), Memory>
-    requires plain { IsPlainTask task.now }
+    requires searchable { IsSearchTask task.now }
     requires goal { goal.now ≡ needs_of task.now.goal [] }
     ensures entries { OnOk result (progress.new.history.entries ≡ progress.old.history.entries) }
     ensures opened { OnOk result ((os : List (Opened PlainState)) (taken : List ℕ) → TakenBelow taken os → Tracks os taken progress.old → Tracks (open_child (space_of task.now) parent (child_of successor) os) taken progress.new) }
@@ -99,7 +99,7 @@ pub(crate) fn open_successors(
     parent: usize,
     successors: List<Successor>,
 ) -> Result<(), Memory>
-    requires plain { IsPlainTask task.now }
+    requires searchable { IsSearchTask task.now }
     requires goal { goal.now ≡ needs_of task.now.goal [] }
     ensures entries { OnOk result (progress.new.history.entries ≡ progress.old.history.entries) }
     ensures opened { OnOk result ((os : List (Opened PlainState)) (taken : List ℕ) → TakenBelow taken os → Tracks os taken progress.old → Tracks (open_all (space_of task.now) parent (map child_of successors) os) taken progress.new) }

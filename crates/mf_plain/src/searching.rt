@@ -1,7 +1,7 @@
 ghost use Rattle.std.specs.Prelude.{◌≡◌, ◌≤◌, ◌<◌, ◌^◌, ℕ, [], ◌∷◌, ◌++◌, List, length, IfOk, OnOk};
 ghost use Rattle.mf_model.specs.Application.{instances_of};
 ghost use Rattle.mf_model.specs.Objects.{HaveTopType};
-ghost use Rattle.mf_plain.specs.PlainTask.{IsPlainTask};
+ghost use Rattle.mf_plain.specs.SearchTask.{IsSearchTask};
 ghost use Rattle.mf_model.specs.declared.state.PlainState.{PlainState};
 ghost use Rattle.mf_model.specs.declared.task.TypedTask.{TypedTask};
 ghost use Rattle.mf_search.specs.declared.entry.Entry.TheVariants.{Done};
@@ -40,7 +40,7 @@ fn expand(
     progress: &mut Progress,
     state: usize,
 ) -> Result<(), Memory>
-    requires plain { IsPlainTask task.now }
+    requires searchable { IsSearchTask task.now }
     requires listed { instances.now ≡ instances_of task.now }
     requires numbered { length instances.now < 2 ^ 32 }
     requires goal { goal.now ≡ needs_of task.now.goal [] }
@@ -66,7 +66,7 @@ fn advance(
     goal: &[Atom],
     progress: &mut Progress,
 ) -> Result<Option<Status>, Memory>
-    requires plain { IsPlainTask task.now }
+    requires searchable { IsSearchTask task.now }
     requires listed { instances.now ≡ instances_of task.now }
     requires numbered { length instances.now < 2 ^ 32 }
     requires goal { goal.now ≡ needs_of task.now.goal [] }
@@ -103,7 +103,7 @@ fn last_status(progress: &Progress) -> Status
 ///
 /// The instances are numbered by `u32`: a task with more of them is answered as want of memory.
 pub fn search(alloc: Global, task: &TypedTask, budget: u64) -> Result<Searched, Memory>
-    requires plain { IsPlainTask task.now }
+    requires searchable { IsSearchTask task.now }
     requires objects { HaveTopType task.now }
     requires some { 1 ≤ budget }
     ensures { IfOk result (IsSearched task.now budget) }

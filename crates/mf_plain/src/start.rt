@@ -1,6 +1,6 @@
 ghost use Rattle.std.specs.Prelude.{◌≡◌, ℕ, [], IfOk};
 ghost use Rattle.std.specs.List.{fold};
-ghost use Rattle.mf_plain.specs.PlainTask.{IsPlainTask};
+ghost use Rattle.mf_plain.specs.SearchTask.{IsSearchTask};
 ghost use Rattle.mf_model.specs.States.{with_atom};
 ghost use Rattle.mf_plain.specs.Conjunctions.{needs_of};
 ghost use Rattle.mf_plain.specs.UnderWay.{IsUnderWay};
@@ -15,7 +15,7 @@ use std::alloc::Global;
 
 /// The atoms of the task's goal.
 pub(crate) fn goal_atoms(alloc: Global, task: &TypedTask) -> Result<List<Atom>, Memory>
-    requires { IsPlainTask task.now }
+    requires { IsSearchTask task.now }
     ensures { IfOk result (λ needs. needs ≡ needs_of task.now.goal []) }
 {
     let mut needs = List::new(alloc);
@@ -35,7 +35,7 @@ fn sorted(alloc: Global, atoms: &[Atom]) -> Result<List<Atom>, Memory>
 
 /// A search that has opened the start.
 pub(crate) fn start(alloc: Global, task: &TypedTask, goal: &[Atom]) -> Result<Progress, Memory>
-    requires plain { IsPlainTask task.now }
+    requires searchable { IsSearchTask task.now }
     requires goal { goal.now ≡ needs_of task.now.goal [] }
     ensures { IfOk result (λ progress. (budget : ℕ) → IsUnderWay task.now budget 0 progress) }
 {

@@ -1,6 +1,6 @@
 ghost use Rattle.std.specs.Prelude.{◌≡◌, ◌<◌, ◌^◌, [], ◌∷◌, ◌++◌, map, length, IfOk, OnOk};
 ghost use Rattle.std.specs.Option.{option_to_list};
-ghost use Rattle.mf_plain.specs.PlainTask.{IsPlainTask};
+ghost use Rattle.mf_plain.specs.SearchTask.{IsSearchTask};
 ghost use Rattle.mf_plain.specs.PlainSpace.{children_from};
 ghost use Rattle.mf_plain.specs.Successors.{child_of};
 
@@ -25,7 +25,7 @@ fn child_by(
     instance: &Instance,
     state: &PlainState,
 ) -> Result<Option<Successor>, Memory>
-    requires { IsPlainTask task.now }
+    requires { IsSearchTask task.now }
     ensures { IfOk result (λ it. map child_of (option_to_list it) ≡ children_from task.now state.now number (instance.now ∷ [])) }
 {
     let Some(action) = task.actions.get(instance.action as usize) else {
@@ -58,7 +58,7 @@ pub(crate) fn successors(
     instances: &[Instance],
     state: &PlainState,
 ) -> Result<List<Successor>, Memory>
-    requires plain { IsPlainTask task.now }
+    requires searchable { IsSearchTask task.now }
     requires numbered { length instances.now < 2 ^ 32 }
     ensures { IfOk result (λ list. map child_of list ≡ children_from task.now state.now 0 instances.now) }
 {

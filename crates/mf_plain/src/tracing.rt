@@ -1,6 +1,6 @@
 ghost use Rattle.std.specs.Prelude.{◌≡◌, ◌<◌, ℕ, All, List, Some, map, reverse, length, slice_get, IfOk};
 ghost use Rattle.mf_model.specs.Objects.{HaveTopType};
-ghost use Rattle.mf_plain.specs.PlainTask.{IsPlainTask};
+ghost use Rattle.mf_plain.specs.SearchTask.{IsSearchTask};
 ghost use Rattle.mf_model.specs.declared.task.TypedTask.{TypedTask};
 ghost use Rattle.mf_search.specs.declared.status.Status.TheVariants.{Plan};
 ghost use Rattle.mf_search.specs.Answers.{plan_to};
@@ -68,7 +68,7 @@ pub fn plan_of(
     task: &TypedTask,
     searched: &Searched,
 ) -> Result<List<Instance>, TraceFault>
-    requires plain { IsPlainTask task.now }
+    requires searchable { IsSearchTask task.now }
     requires objects { HaveTopType task.now }
     requires searched { (budget : ℕ) × IsSearched task.now budget searched.now }
     ensures { Traces task.now searched.now result }

@@ -7,7 +7,7 @@ use Rattle.mf_plain.proofs.listing.instances.Goals as goal
 
 pub arguments-requires-clause-types : goal.arguments-requires-clause-types
 arguments-requires-clause-types c =
-    listed_parameters c.args.task.now c.as_slice-action-items.result.now c.action-item.result c.as_slice.result.now c.loop-number.number c.requires.plain c.as_slice-action-items.ensures c.loop-number-test.true c.action-item.is c.as_slice.ensures
+    listed_parameters c.args.task.now c.as_slice-action-items.result.now c.action-item.result c.as_slice.result.now c.loop-number.number c.requires.searchable c.as_slice-action-items.ensures c.loop-number-test.true c.action-item.is c.as_slice.ensures
 
 pub loop-number-preserved : goal.loop-number-preserved
 loop-number-preserved c =

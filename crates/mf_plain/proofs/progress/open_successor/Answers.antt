@@ -10,5 +10,5 @@ returns-then-is_known-clause-opened c os taken below t =
 pub returns-clause-opened : goal.returns-clause-opened
 returns-clause-opened c os taken below t =
     child_is_new c.args.task.now os taken c.args.parent c.args.successor c.unmet-value.result c.as_slice.result.now c.args.progress.now c.open.new.progress c.as_slice.ensures c.if-is_known.ensures
-    (c.unmet-value.ensures ∙ goal_value c.args.task.now c.args.successor.state c.args.goal.now c.as_slice-2.result.now c.requires.plain c.requires.goal c.as_slice-2.ensures)
+    (c.unmet-value.ensures ∙ goal_value c.args.task.now c.args.successor.state c.args.goal.now c.as_slice-2.result.now c.requires.searchable c.requires.goal c.as_slice-2.ensures)
     c.in_ok-open.ensures.history c.in_ok-open.ensures.taken below t

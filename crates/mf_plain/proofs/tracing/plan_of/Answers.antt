@@ -17,6 +17,6 @@ steps_back-requires c =
 pub returns : goal.returns
 returns c =
     let s = c.requires.searched in
-    plan_traced c.args.task.now s.0 c.args.searched.now c.in-Plan.state c.in_ok-steps.steps c.requires.plain s.1 c.in-Plan.is
+    plan_traced c.args.task.now s.0 c.args.searched.now c.in-Plan.state c.in_ok-steps.steps c.requires.searchable s.1 c.in-Plan.is
     (steps_traced (instances_of c.args.task.now) c.as_slice.result.now c.in_ok-steps.steps (plan_to (space_of c.args.task.now) (world_of c.args.task.now c.args.searched.now.history).opened c.in-Plan.state) c.in_ok-numbers.numbers
     (c.as_slice.ensures ∙ c.in_ok-instances.ensures) (c.in_ok-numbers.ensures c.args.task.now s.0 s.1) c.in_ok-steps.ensures)

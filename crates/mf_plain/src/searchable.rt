@@ -3,8 +3,8 @@ ghost use Rattle.std.specs.Bool.{Decides};
 ghost use Rattle.std.specs.List.{list_all};
 ghost use Rattle.mf_model.specs.Plain as plain;
 ghost use Rattle.mf_plain.specs.PlainTask as spec;
-ghost use Rattle.mf_plain.specs.PlainTask.{IsPlainTask};
-ghost use Rattle.mf_plain.specs.PlainTest as test;
+ghost use Rattle.mf_plain.specs.SearchTask.{IsSearchTask};
+ghost use Rattle.mf_plain.specs.SearchTest as test;
 
 use mf_model::{Action, Atom, Cond, Effect, Symbol, Term, TypedTask, Types};
 
@@ -32,22 +32,22 @@ fn are_object_types(parameters: &[Types]) -> bool
         .all(|types| is_object_type(types.as_slice()))
 }
 
-fn are_plain_parameters(parameters: &[Types]) -> bool
-    ensures { result ≡ test.are_plain_parameters parameters.now }
+fn are_searchable_parameters(parameters: &[Types]) -> bool
+    ensures { result ≡ test.are_searchable_parameters parameters.now }
 {
     are_object_types(parameters) && parameters.len() <= 32
 }
 
-fn is_plain_symbol(symbol: &Symbol) -> bool
-    ensures { result ≡ test.is_plain_symbol symbol.now }
+fn is_searchable_symbol(symbol: &Symbol) -> bool
+    ensures { result ≡ test.is_searchable_symbol symbol.now }
 {
-    are_plain_parameters(symbol.parameters.as_slice())
+    are_searchable_parameters(symbol.parameters.as_slice())
 }
 
-fn are_plain_symbols(symbols: &[Symbol]) -> bool
-    ensures { result ≡ list_all test.is_plain_symbol symbols.now }
+fn are_searchable_symbols(symbols: &[Symbol]) -> bool
+    ensures { result ≡ list_all test.is_searchable_symbol symbols.now }
 {
-    symbols.iter().all(is_plain_symbol)
+    symbols.iter().all(is_searchable_symbol)
 }
 
 fn is_plain_term(variables: usize, objects: usize, term: &Term) -> bool
@@ -154,11 +154,11 @@ fn is_plain_effect(predicates: &[Symbol], variables: usize, objects: usize, effe
     }
 }
 
-fn is_plain_action(predicates: &[Symbol], objects: usize, action: &Action) -> bool
-    ensures { result ≡ test.is_plain_action predicates.now objects action.now }
+fn is_searchable_action(predicates: &[Symbol], objects: usize, action: &Action) -> bool
+    ensures { result ≡ test.is_searchable_action predicates.now objects action.now }
 {
     let variables = action.parameters.len();
-    are_plain_parameters(action.parameters.as_slice())
+    are_searchable_parameters(action.parameters.as_slice())
         && is_plain_condition(predicates, variables, objects, &action.condition)
         && is_plain_effect(predicates, variables, objects, &action.effect)
 }
@@ -178,10 +178,10 @@ fn are_plain_facts(predicates: &[Symbol], objects: usize, atoms: &[Atom]) -> boo
         .all(|atom| is_plain_fact(predicates, objects, atom))
 }
 
-fn are_plain_names(task: &TypedTask) -> bool
-    ensures { result ≡ test.are_plain_names task.now }
+fn are_searchable_names(task: &TypedTask) -> bool
+    ensures { result ≡ test.are_searchable_names task.now }
 {
-    are_plain_symbols(task.predicates.as_slice()) && matches!(task.functions.as_slice(), [])
+    are_searchable_symbols(task.predicates.as_slice()) && matches!(task.functions.as_slice(), [])
 }
 
 fn is_within_limits(task: &TypedTask) -> bool
@@ -190,16 +190,16 @@ fn is_within_limits(task: &TypedTask) -> bool
     task.objects.len() <= 65_535 && task.predicates.len() <= 10_000 && task.actions.len() <= 1000
 }
 
-fn are_plain_actions(predicates: &[Symbol], objects: usize, actions: &[Action]) -> bool
-    ensures { result ≡ list_all (test.is_plain_action predicates.now objects) actions.now }
+fn are_searchable_actions(predicates: &[Symbol], objects: usize, actions: &[Action]) -> bool
+    ensures { result ≡ list_all (test.is_searchable_action predicates.now objects) actions.now }
 {
     actions
         .iter()
-        .all(|action| is_plain_action(predicates, objects, action))
+        .all(|action| is_searchable_action(predicates, objects, action))
 }
 
-fn is_plain_start(task: &TypedTask) -> bool
-    ensures { result ≡ test.is_plain_start task.now }
+fn is_searchable_start(task: &TypedTask) -> bool
+    ensures { result ≡ test.is_searchable_start task.now }
 {
     are_plain_facts(
         task.predicates.as_slice(),
@@ -208,8 +208,8 @@ fn is_plain_start(task: &TypedTask) -> bool
     ) && matches!(task.values.as_slice(), [])
 }
 
-fn is_plain_end(task: &TypedTask) -> bool
-    ensures { result ≡ test.is_plain_end task.now }
+fn is_searchable_end(task: &TypedTask) -> bool
+    ensures { result ≡ test.is_searchable_end task.now }
 {
     is_plain_condition(
         task.predicates.as_slice(),
@@ -220,23 +220,23 @@ fn is_plain_end(task: &TypedTask) -> bool
 }
 
 fn passes(task: &TypedTask) -> bool
-    ensures { result ≡ test.is_plain_task task.now }
+    ensures { result ≡ test.is_searchable_task task.now }
 {
-    are_plain_names(task)
+    are_searchable_names(task)
         && is_within_limits(task)
-        && are_plain_actions(
+        && are_searchable_actions(
             task.predicates.as_slice(),
             task.objects.len(),
             task.actions.as_slice(),
         )
-        && is_plain_start(task)
-        && is_plain_end(task)
+        && is_searchable_start(task)
+        && is_searchable_end(task)
 }
 
 /// Whether the task is one that the plain search takes: its parameters of the type `object`, without numbers, its
 /// conditions conjunctions of atoms, its effects groups of atoms that are added and deleted.
-pub fn is_plain(task: &TypedTask) -> bool
-    ensures { Decides result (IsPlainTask task.now) }
+pub fn is_searchable(task: &TypedTask) -> bool
+    ensures { Decides result (IsSearchTask task.now) }
 {
     passes(task)
 }

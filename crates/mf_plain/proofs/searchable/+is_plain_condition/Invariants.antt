@@ -1,6 +1,6 @@
 use Rattle.std.proofs.Common.{◌≡◌, drop, map}
 use Rattle.mf_model.specs.Plain.{all_true, is_plain_cond}
-use Rattle.mf_plain.proofs.plain.+is_plain_condition.Given as goal
+use Rattle.mf_plain.proofs.searchable.+is_plain_condition.Given as goal
 
 abbrev pub decreases-is_plain_condition : goal.decreases-is_plain_condition
 decreases-is_plain_condition l = goal.size-is_plain_condition l
