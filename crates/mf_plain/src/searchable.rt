@@ -233,8 +233,8 @@ fn passes(task: &TypedTask) -> bool
         && is_searchable_end(task)
 }
 
-/// Whether the task is one that the plain search takes: its parameters of the type `object`, without numbers, its
-/// conditions conjunctions of atoms, its effects groups of atoms that are added and deleted.
+/// Whether the task is one that the plain search takes: it is plain and within the limits, and each of its numbers names
+/// what is declared.
 pub fn is_searchable(task: &TypedTask) -> bool
     ensures { Decides result (IsSearchTask task.now) }
 {

@@ -5,6 +5,7 @@ pub mod ExactLemmas
 pub mod FileLemmas
 pub mod InputLemmas
 pub mod LoadLemmas
+pub mod PlainLemmas
 pub mod RunLemmas
 pub mod SearchLemmas
 pub mod Statuses

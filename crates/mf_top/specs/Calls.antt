@@ -105,7 +105,7 @@ pub record HasNoPlan (domain problem : List ℕ) : Type 0 where
   pub of_files : IsTaskOfFiles domain problem task
   pub none : (steps : List Instance) → IsPlan task steps → ⊥
 
--- no task of the two files is one that the search takes
+-- no task of the two files is plain
 abbrev pub HasNoPlainTask : (domain problem : List ℕ) → Type 0
 HasNoPlainTask domain problem = (task : TypedTask) → IsTaskOfFiles domain problem task → IsPlainTask task → ⊥
 
@@ -132,7 +132,7 @@ pub record SaysNotBuilt (domain problem : List ℕ) (before after : Option (List
   pub printed : Appends (codes "task: not built\n") before after
 
 -- the refusal of the input is written to err: lengths before contents, the domain before the problem, and what is wrong
--- with a file before what the search doesn't take
+-- with a file before a task that isn't plain
 abbrev pub SaysRefused : Option Request → (domain problem : List ℕ) → Option (List ℕ) → Option (List ℕ) → Type 0
 SaysRefused (Some (Plan domain_name problem_name budget)) domain problem before after =
     SaysTooLong domain_name domain before after

@@ -1,8 +1,9 @@
-ghost use Rattle.std.specs.Prelude.{◌≡◌, ℕ, ◌≤◌, ◌++◌, List, Some, IfOk};
+ghost use Rattle.std.specs.Prelude.{◌≡◌, ◌↔◌, ℕ, ◌≤◌, ◌++◌, List, Some, IfOk};
 ghost use Rattle.std.specs.Str.{IsUtf8};
 ghost use Rattle.mf_io.specs.declared.folder.Loading.{Loading};
 ghost use Rattle.mf_model.specs.Objects.{HaveTopType};
 ghost use Rattle.mf_plain.specs.PlainTask.{IsPlainTask};
+ghost use Rattle.mf_plain.specs.SearchTask.{IsSearchTask};
 ghost use Rattle.mf_plain.specs.Searches.{IsSearched};
 ghost use Rattle.mf_search.specs.declared.status.Status.TheVariants as status;
 ghost use Rattle.mf_top.specs.declared.outcome.Outcome.TheVariants.{Stopped};
@@ -10,12 +11,13 @@ ghost use Rattle.mf_top.specs.Words.{IsRequest};
 ghost use Rattle.mf_top.specs.Outcome.{no_history, IsPlanText, IsAnswerOf, EndsSearch, EndsTask, EndsPlan, Ends};
 
 use crate::judging::decide_validate;
+use crate::laws::plain_tasks_are_searched;
 use crate::reading::load_task;
 use crate::texts::plan_text;
 use crate::{Answer, Outcome, Request, Stop};
 use mf_io::{Folder, Memory};
 use mf_model::{List, Text, TypedTask};
-use mf_plain::{History, Searched, Status, TraceFault, is_plain, plan_of, search};
+use mf_plain::{History, Searched, Status, TraceFault, is_searchable, plan_of, search};
 use std::alloc::Global;
 
 /// An outcome, and the history of its search.
@@ -50,7 +52,7 @@ pub(crate) fn stopped(alloc: Global, stop: Stop) -> Decided
 
 // The plan of a search that took a goal, as a text.
 fn plan_found(alloc: Global, task: &TypedTask, searched: &Searched) -> Result<Text, Memory>
-    requires plain { IsPlainTask task.now }
+    requires searchable { IsSearchTask task.now }
     requires objects { HaveTopType task.now }
     requires searched { (budget : ℕ) × IsSearched task.now budget searched.now }
     requires goal { (goal : ℕ) × (searched.now.status ≡ status.Plan goal) }
@@ -70,7 +72,7 @@ fn answer_of(
     budget: u64,
     searched: &Searched,
 ) -> Result<Answer, Memory>
-    requires plain { IsPlainTask task.now }
+    requires searchable { IsSearchTask task.now }
     requires objects { HaveTopType task.now }
     requires searched { IsSearched task.now budget searched.now }
     ensures { IfOk result (IsAnswerOf task.now budget searched.now.history) }
@@ -88,7 +90,7 @@ fn answer_of(
 
 // The outcome of a search that returned.
 fn outcome_of(alloc: Global, task: &TypedTask, budget: u64, searched: &Searched) -> Outcome
-    requires plain { IsPlainTask task.now }
+    requires searchable { IsSearchTask task.now }
     requires objects { HaveTopType task.now }
     requires searched { IsSearched task.now budget searched.now }
     ensures { EndsSearch task.now budget searched.now.history result }
@@ -103,7 +105,7 @@ fn outcome_of(alloc: Global, task: &TypedTask, budget: u64, searched: &Searched)
 
 // Searches for a plan of the task.
 fn solve(alloc: Global, task: &TypedTask, budget: u64) -> Decided
-    requires plain { IsPlainTask task.now }
+    requires searchable { IsSearchTask task.now }
     requires objects { HaveTopType task.now }
     requires some { 1 ≤ budget }
     ensures { EndsSearch task.now budget result.history result.outcome }
@@ -119,11 +121,12 @@ fn solve(alloc: Global, task: &TypedTask, budget: u64) -> Decided
 
 // Searches for a plan of the task, if it is plain.
 fn decide_task(alloc: Global, task: &TypedTask, budget: u64) -> Decided
+    requires plain { IsPlainTask task.now ↔ IsSearchTask task.now }
     requires objects { HaveTopType task.now }
     requires some { 1 ≤ budget }
     ensures { EndsTask task.now budget result.history result.outcome }
 {
-    if is_plain(task) {
+    if is_searchable(task) {
         solve(alloc, task, budget)
     } else {
         stopped(alloc, Stop::NotBuilt)
@@ -145,6 +148,7 @@ fn decide_plan<F: Folder>(
         × EndsPlan (F.held files.old) domain.now problem.now budget loads result.history result.outcome }
 {
     mf_input::objects_have_the_top_type();
+    plain_tasks_are_searched();
     match load_task(alloc, domain, problem, files) {
         Ok(task) => decide_task(alloc, &task, budget),
         Err(stop) => stopped(alloc, stop),

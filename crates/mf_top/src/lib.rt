@@ -6,6 +6,7 @@ mod decide;
 mod deliver;
 mod judging;
 mod kinds;
+mod laws;
 mod load;
 mod outcome;
 mod reading;
@@ -17,6 +18,7 @@ mod verdicts;
 mod words;
 
 pub use command::{Ended, plan_one, run, validate};
+pub use laws::plain_tasks_are_searched;
 pub use load::GREATEST_LENGTH;
 pub use outcome::{Answer, Judgement, Outcome, PlanFlaw, Stop};
 pub use request::Request;

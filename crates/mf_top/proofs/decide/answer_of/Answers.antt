@@ -8,5 +8,5 @@ unreachable-requires c = no_other_answer c.args.task.now c.args.budget c.args.se
 pub returns-in-NoPlan : goal.returns-in-NoPlan
 returns-in-NoPlan c = (
   rw (← c.in-NoPlan.is) c.requires.searched,
-  no_plan_found c.args.task.now c.args.budget c.args.searched.now c.requires.plain c.requires.searched c.in-NoPlan.is,
+  no_plan_found c.args.task.now c.args.budget c.args.searched.now c.requires.searchable c.requires.searched c.in-NoPlan.is,
 )

@@ -7,6 +7,12 @@ decide_task-requires-clause-objects g c =
     let reads = loaded.2 in
     c.objects_have_the_top_type.ensures reads.domain_bytes reads.problem_bytes c.in-Ok.task reads.says
 
+pub decide_task-requires-clause-plain : goal.decide_task-requires-clause-plain
+decide_task-requires-clause-plain g c =
+    let loaded = c.in-Ok.ensures in
+    let reads = loaded.2 in
+    c.plain_tasks_are_searched.ensures reads.domain_bytes reads.problem_bytes c.in-Ok.task reads.says
+
 pub returns-in-Ok : goal.returns-in-Ok
 returns-in-Ok g c =
     let loaded = c.in-Ok.ensures in
