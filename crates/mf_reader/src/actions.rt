@@ -135,11 +135,6 @@ pub(crate) fn action(alloc: Global, span: Span, trees: &[Tree]) -> Result<RawAct
         condition: None,
         effect: None,
     };
-    match read_parts(alloc, &mut slots, parts) {
-        Ok(()) => Ok(made_action(alloc, span, word, slots)),
-        Err(fault) => {
-            drop(slots);
-            Err(fault)
-        }
-    }
+    read_parts(alloc, &mut slots, parts)?;
+    Ok(made_action(alloc, span, word, slots))
 }

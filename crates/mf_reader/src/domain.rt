@@ -154,13 +154,8 @@ fn domain_with_sections(alloc: Global, head: &Tree, sections: &[Tree]) -> Result
         functions: None,
         actions: List::new(alloc),
     };
-    match read_sections(alloc, sections, &mut parts) {
-        Ok(()) => Ok(made_domain(alloc, name, parts)),
-        Err(fault) => {
-            drop(parts);
-            Err(fault)
-        }
-    }
+    read_sections(alloc, sections, &mut parts)?;
+    Ok(made_domain(alloc, name, parts))
 }
 
 /// The domain that a tree is.

@@ -198,13 +198,8 @@ fn problem_with_sections(
         goal: None,
         metric: None,
     };
-    match read_sections(alloc, sections, &mut parts) {
-        Ok(()) => Ok(made_problem(alloc, span, name, parts)),
-        Err(fault) => {
-            drop(parts);
-            Err(fault)
-        }
-    }
+    read_sections(alloc, sections, &mut parts)?;
+    Ok(made_problem(alloc, span, name, parts))
 }
 
 /// Whether the sections stand that a problem must have.
