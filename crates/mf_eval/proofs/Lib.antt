@@ -1,4 +1,3 @@
-pub mod Ancestors
 pub mod ConditionLaw
 pub mod EffectLaw
 pub mod ExpressionLaw

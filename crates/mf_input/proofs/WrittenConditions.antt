@@ -1,5 +1,6 @@
 -- Conditions of the grammar are written as it says.
 use Rattle.std.proofs.Common.{◌≡◌, Bool, true, false, List, [], map, inl, inr, refl, ◌∙◌, subst}
+use Rattle.mf_model.proofs.Choices.{and_true}
 use Rattle.mf_model.specs.declared.token.Span.{Span}
 use Rattle.mf_model.specs.declared.tree.Tree.{Tree}
 use Rattle.mf_model.specs.declared.form.RawCond.{RawCond}
@@ -10,7 +11,6 @@ use Rattle.mf_model.specs.Plain.{all_true}
 use Rattle.mf_reader.specs.GrammarConditions.{IsGrouped, IsCond}
 use Rattle.mf_reader.proofs.CondSound.{CondRow, cond_row_of}
 use Rattle.mf_types.specs.Written.{is_written_expr, cond_step, is_written_cond}
-use Rattle.mf_types.proofs.Given.{and_true}
 use Rattle.mf_input.proofs.WrittenParts.{parts_written}
 use Rattle.mf_input.proofs.WrittenExpressions.{expr_written}
 

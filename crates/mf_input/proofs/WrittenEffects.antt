@@ -1,5 +1,6 @@
 -- Effects of the grammar are written as it says.
 use Rattle.std.proofs.Common.{◌≡◌, Bool, true, ◌&&◌, refl, ◌∙◌, subst}
+use Rattle.mf_model.proofs.Choices.{and_true}
 use Rattle.mf_model.specs.declared.token.Span.{Span}
 use Rattle.mf_model.specs.declared.tree.Tree.{Tree}
 use Rattle.mf_model.specs.declared.form.RawCond.{RawCond}
@@ -9,7 +10,6 @@ use Rattle.mf_model.specs.declared.form.RawEffect.TheFolds.{ind-RawEffect, fold-
 use Rattle.mf_reader.specs.GrammarEffects.{NoWhen, IsWhen, IsInnerEffect, IsEffect}
 use Rattle.mf_reader.proofs.EffectSound.{EffectBy, EffectRowBy, effect_row}
 use Rattle.mf_types.specs.Written.{is_written_cond, effect_step, is_written_effect}
-use Rattle.mf_types.proofs.Given.{and_true}
 use Rattle.mf_input.proofs.WrittenExpressions.{expr_written}
 use Rattle.mf_input.proofs.WrittenConditions.{group_written, cond_written}
 

@@ -1,6 +1,7 @@
 -- Expressions of the grammar are written as it says.
 use Rattle.std.proofs.Common.{◌≡◌, ◌≤◌, Bool, true, false, ◌&&◌, nat_le, List, map, length, refl, ap, ◌∙◌, subst}
 use Rattle.std.proofs.lemmas.List.{length-map}
+use Rattle.mf_model.proofs.Choices.{and_true}
 use Rattle.mf_model.specs.declared.token.Span.{Span}
 use Rattle.mf_model.specs.declared.tree.Tree.{Tree}
 use Rattle.mf_model.specs.declared.form.RawExpr.{RawExpr}
@@ -11,7 +12,6 @@ use Rattle.mf_model.specs.Plain.{all_true}
 use Rattle.mf_reader.specs.GrammarExpressions.{NoTime, IsTotalTime, IsExpr, IsMetricExpr}
 use Rattle.mf_reader.proofs.ExprRows.{ExprBy, RowBy, expr_row}
 use Rattle.mf_types.specs.Written.{expr_step, is_written_expr}
-use Rattle.mf_types.proofs.Given.{and_true}
 use Rattle.mf_input.proofs.WrittenParts.{parts_written, two_written}
 
 module _ (IsTime : Span → Tree → Type 0) (timed : Bool) (allowed : (span : Span) (t : Tree) → IsTime span t → timed ≡ true) where

@@ -1,6 +1,7 @@
 -- A domain and a problem of the grammar are written as it says.
 use Rattle.std.proofs.Common.{◌≡◌, Bool, true, Option, Some, None, List, [], ◌∷◌, inl, inr, ap, sym, ◌∙◌, subst, All}
 use Rattle.std.proofs.lemmas.List.Elements.{All-nil, All-cons}
+use Rattle.mf_model.proofs.Choices.{and_true}
 use Rattle.mf_model.specs.declared.token.Span.{Span}
 use Rattle.mf_model.specs.declared.tree.Tree.{Tree}
 use Rattle.mf_model.specs.declared.form.RawCond.{RawCond}
@@ -19,7 +20,6 @@ use Rattle.mf_model.specs.Forms.{Headed}
 use Rattle.mf_reader.specs.GrammarSections.{IsPrecondition, IsOutcome, IsAction, AreActions}
 use Rattle.mf_reader.specs.GrammarFiles.{IsMetric, IsDomain, IsProblem}
 use Rattle.mf_types.specs.Written.{cond_step, is_written_cond, effect_step, is_written_effect, is_written_action, is_written_metric, IsWritten}
-use Rattle.mf_types.proofs.Given.{and_true}
 use Rattle.mf_input.proofs.WrittenExpressions.{metric_expr_written}
 use Rattle.mf_input.proofs.WrittenConditions.{cond_written}
 use Rattle.mf_input.proofs.WrittenEffects.{effect_written}

@@ -1,10 +1,10 @@
 -- Parts that are written as the grammar says.
 use Rattle.std.proofs.Common.{◌≡◌, ℕ, suc, ◌≤◌, Bool, true, nat_le, List, [], ◌∷◌, map, length, refl, ap, arith}
 use Rattle.std.proofs.lemmas.Bool.Decides.{nat_tests}
+use Rattle.mf_model.proofs.Choices.{and_true}
 use Rattle.mf_model.specs.declared.tree.Tree.{Tree}
 use Rattle.mf_model.specs.Forms.{Each}
 use Rattle.mf_model.specs.Plain.{all_true}
-use Rattle.mf_types.proofs.Given.{and_true}
 
 pub parts_written : {X Y : Type 0} (Form : Y → Tree → Type 0) (written : Y → Bool) (view : X → Y) → ((x : X) (t : Tree) → Form (view x) t → written (view x) ≡ true) →
     (xs : List X) (ts : List Tree) → Each Form (map view xs) ts → all_true (map written (map view xs)) ≡ true

@@ -1,5 +1,5 @@
 -- The spans of a tree of a file are nested and in a row.
-use Rattle.std.proofs.Common.{◌≡◌, ℕ, ◌+◌, ◌-◌, ◌<◌, ◌≤◌, List, [], ◌∷◌, ◌++◌, map, sym, refl, ap, ◌∙◌, subst, append_assoc, inl, inr, arith, rules}
+use Rattle.std.proofs.Common.{◌≡◌, ℕ, ◌+◌, ◌-◌, ◌<◌, ◌≤◌, List, [], ◌∷◌, ◌++◌, map, sym, ap, ◌∙◌, subst, append_assoc, inl, inr, arith, rules}
 use Rattle.std.proofs.lemmas.List.{append-nil}
 use Rattle.mf_model.specs.declared.token.Span.{Span}
 use Rattle.mf_model.specs.declared.token.Token.{Token}
@@ -7,9 +7,10 @@ use Rattle.mf_model.specs.declared.token.Kind.{Kind}
 use Rattle.mf_model.specs.declared.tree.Tree.{Tree, the_lemmas, roll-Tree, map-Tree}
 use Rattle.mf_model.specs.declared.tree.Tree.TheVariants.{Leaf, Branch}
 use Rattle.mf_model.specs.declared.tree.Tree.TheOpen.{Tree-F}
-use Rattle.mf_model.specs.declared.tree.Tree.TheFolds.{ind-Tree, rec-roll-Tree}
+use Rattle.mf_model.specs.declared.tree.Tree.TheFolds.{ind-Tree}
 use Rattle.mf_model.specs.Tokens.{IsTokenAt, AreTokensFrom}
-use Rattle.mf_model.specs.Trees.{flat, joined, left_of, right_of, IsTreeOf, span_of, InRow, placed_form, IsPlaced}
+use Rattle.mf_model.specs.Trees.{flat, joined, left_of, right_of, IsTreeOf, span_of, InRow, IsPlaced}
+use Rattle.mf_model.proofs.PlacedTrees.{placed_roll}
 use Rattle.mf_lex.proofs.Folds.{flat_leaf, flat_branch}
 use Rattle.mf_lex.proofs.Whole.{rolled_leaf, rolled_branch}
 
@@ -20,21 +21,6 @@ span_leaf kind text span = search (rules, the_lemmas)
 
 pub span_branch : (items : List Tree) (span : Span) → span_of (Branch items span) ≡ span
 span_branch items span = search (rules, the_lemmas)
-
-row_natural : (X : Type 0) (v : X → Tree) (k : Tree → Type 0) (from : ℕ) (xs : List X) (to : ℕ) → InRow X (λ x. span_of (v x)) (λ p. k (v p)) from xs to ≡ InRow Tree span_of k from (map v xs) to
-row_natural X v k from [] to = refl
-row_natural X v k from (x ∷ xs) to =
-    let rest = row_natural X v k (span_of (v x)).end xs to in
-    λ i. (from ≤ (span_of (v x)).start) × k (v x) × rest i
-
-natural : (X : Type 0) (v : X → Tree) (k : Tree → Type 0) (x : Tree-F X) → placed_form X v (λ p. k (v p)) x ≡ placed_form Tree (λ y. y) k (map-Tree X Tree v x)
-natural X v k (Tree-F.Leaf kind text span) = refl
-natural X v k (Tree-F.Branch items span) =
-    let row = row_natural X v k (span.start + 1) items (span.end - 1) in
-    λ i. (span.start < span.end) × row i
-
-placed_roll : (x : Tree-F Tree) → IsPlaced (roll-Tree x) ≡ placed_form Tree (λ y. y) IsPlaced x
-placed_roll x = rec-roll-Tree (Type 0) placed_form natural x
 
 pub placed_leaf : (kind : Kind) (text : List ℕ) (span : Span) → IsPlaced (Leaf kind text span) ≡ (span.start < span.end)
 placed_leaf kind text span = ap IsPlaced (rolled_leaf kind text span) ∙ placed_roll (Tree-F.Leaf kind text span)

@@ -1,1 +1,4 @@
-mod Examples
+pub mod Ancestors
+pub mod Choices
+pub mod Examples
+pub mod PlacedTrees

@@ -55,7 +55,7 @@ IsVariable w t = IsLeaf Variable w.text w.span t
 abbrev pub IsTerm : Word → Tree → Type 0
 IsTerm w t = IsName w t ⊎ IsVariable w t
 
--- the heads of conditions and effects, which name no predicate
+-- the heads of conditions, effects and types that name no predicate
 abbrev pub reserved : List (List ℕ)
 reserved = codes "not" ∷ codes "and" ∷ codes "or" ∷ codes "imply" ∷ codes "forall" ∷ codes "exists" ∷ codes "when" ∷ codes "either" ∷ codes "assign" ∷ codes "increase" ∷ codes "decrease" ∷ codes "scale-up" ∷ codes "scale-down" ∷ []
 

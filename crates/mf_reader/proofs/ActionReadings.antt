@@ -3,6 +3,7 @@ use Rattle.std.proofs.Common.{◌≡◌, ℕ, true, false, if◌then◌else◌, 
 use Rattle.std.specs.List.{AllByRecursion}
 use Rattle.std.specs.Option.{unwrap_or}
 use Rattle.std.specs.Str.{bytes_eq}
+use Rattle.mf_model.proofs.Choices.{if_true, same_text}
 use Rattle.mf_model.specs.declared.token.Kind.{Kind}
 use Rattle.mf_model.specs.declared.token.Span.{Span}
 use Rattle.mf_model.specs.declared.tree.Tree.{Tree}
@@ -27,8 +28,8 @@ use Rattle.mf_reader.specs.GrammarEffects.{IsEffect}
 use Rattle.mf_reader.specs.GrammarSections.{AreParameters, IsPrecondition, IsOutcome, IsAction}
 use Rattle.mf_reader.proofs.Branches.{by_cases}
 use Rattle.mf_reader.proofs.Readings.{some_fault, none_of_both, both_said, mapped_said}
-use Rattle.mf_reader.proofs.Choices.{by_test, if_true}
-use Rattle.mf_reader.proofs.WordReadings.{true_false, same_text, text_same, at_text, name_reads, face_leaf, face_branch}
+use Rattle.mf_reader.proofs.Choices.{by_test}
+use Rattle.mf_reader.proofs.WordReadings.{true_false, text_same, at_text, name_reads, face_leaf, face_branch}
 use Rattle.mf_reader.proofs.TypedReadings.{variable_list_reads}
 use Rattle.mf_reader.proofs.CondReadings.{cond_reads}
 use Rattle.mf_reader.proofs.EffectReadings.{effect_reads}

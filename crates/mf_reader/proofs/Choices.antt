@@ -2,7 +2,8 @@
 use Rattle.std.proofs.Common.{◌≡◌, ℕ, Bool, true, false, ◌||◌, if◌then◌else◌, List, ◌∷◌, refl, ap, sym, ◌∙◌}
 use Rattle.std.specs.List.{list_any}
 use Rattle.std.specs.Str.{bytes_eq}
-use Rattle.mf_reader.proofs.WordReadings.{same_text, true_false, not_true}
+use Rattle.mf_model.proofs.Choices.{same_text}
+use Rattle.mf_reader.proofs.WordReadings.{true_false, not_true}
 
 -- a word that is none of the list is not this one of the list
 pub not_listed : (text key : List ℕ) (ws : List (List ℕ)) → list_any (λ w. bytes_eq text w) ws ≡ false → list_any (λ w. bytes_eq key w) ws ≡ true → bytes_eq text key ≡ false
@@ -15,9 +16,3 @@ none_more text key ws first rest = ap (λ b. b || list_any (λ w. bytes_eq text 
 pub by_test : {A : Type 0} (P : A → Type 0) (b : Bool) (x y : A) → (b ≡ true → P x) → (b ≡ false → P y) → P (if b then x else y)
 by_test P true x y holds fails = holds refl
 by_test P false x y holds fails = fails refl
-
-pub if_true : {A : Type 0} (b : Bool) (x y : A) → b ≡ true → (if b then x else y) ≡ x
-if_true b x y e = ap (λ c. if c then x else y) e
-
-pub if_false : {A : Type 0} (b : Bool) (x y : A) → b ≡ false → (if b then x else y) ≡ y
-if_false b x y e = ap (λ c. if c then x else y) e

@@ -1,6 +1,7 @@
 -- What is said of declarations agrees with their forms.
 use Rattle.std.proofs.Common.{◌≡◌, ◌≢◌, ℕ, Bool, true, false, not, Option, Some, None, List, [], ◌∷◌, ◌++◌, map, refl, ap, sym, ◌∙◌, subst, inl, inr, codes}
 use Rattle.std.proofs.lemmas.List.{append-nil}
+use Rattle.mf_model.proofs.Choices.{if_false, if_true}
 use Rattle.mf_model.specs.declared.token.Kind.TheVariants.{Name}
 use Rattle.mf_model.specs.declared.token.Span.{Span}
 use Rattle.mf_model.specs.declared.tree.Tree.{Tree}
@@ -22,7 +23,7 @@ use Rattle.mf_reader.specs.GrammarTerms.{IsType, Group, IsDash, IsItem, AreGroup
 use Rattle.mf_reader.specs.GrammarSections.{IsHeader, ArePredicates, IsNumber, grouped_items, AreFunctions}
 use Rattle.mf_reader.proofs.Branches.{leaf_list}
 use Rattle.mf_reader.proofs.Readings.{some_fault, none_of_both, both_said, mapped_said}
-use Rattle.mf_reader.proofs.Choices.{by_test, if_true, if_false}
+use Rattle.mf_reader.proofs.Choices.{by_test}
 use Rattle.mf_reader.proofs.WordReadings.{true_false, text_sound, text_complete, text_not, function_sound, function_complete, predicate_sound, predicate_complete}
 use Rattle.mf_reader.proofs.TypedReadings.{variables_read, types_reads, cons_some}
 

@@ -4,6 +4,7 @@ use Rattle.std.specs.List.{list_any, AllByRecursion}
 use Rattle.std.specs.Option.{unwrap_or}
 use Rattle.std.specs.Str.{bytes_eq}
 use Rattle.std.proofs.lemmas.List.{append-nil}
+use Rattle.mf_model.proofs.Choices.{if_true}
 use Rattle.mf_model.specs.declared.token.Span.{Span}
 use Rattle.mf_model.specs.declared.tree.Tree.{Tree}
 use Rattle.mf_model.specs.declared.tree.Tree.TheViews.{out-Tree}
@@ -32,7 +33,7 @@ use Rattle.mf_reader.specs.GrammarTerms.{AreObjects, AreSubtypes}
 use Rattle.mf_reader.specs.GrammarSections.{IsRequirement, ArePredicates, AreFunctions, IsAction, AreActions}
 use Rattle.mf_reader.specs.GrammarFiles.{IsHeadedBy, Holds, AreRequirements, domain_sections, IsDomain}
 use Rattle.mf_reader.proofs.Readings.{some_fault, none_of_both, both_said, mapped_said}
-use Rattle.mf_reader.proofs.Choices.{by_test, if_true}
+use Rattle.mf_reader.proofs.Choices.{by_test}
 use Rattle.mf_reader.proofs.WordReadings.{true_false, text_sound, text_complete}
 use Rattle.mf_reader.proofs.TypedReadings.{objects_read, subtypes_read}
 use Rattle.mf_reader.proofs.DeclReadings.{predicates_read, functions_read}

@@ -1,6 +1,7 @@
 -- What is said of expressions agrees with their forms.
 use Rattle.std.proofs.Common.{◌≡◌, ℕ, ◌≤◌, List, [], ◌∷◌, length, map, refl, ap, sym, ◌∙◌, subst, inl, inr, codes, arith}
 use Rattle.std.specs.List.{AllByRecursion}
+use Rattle.mf_model.proofs.Choices.{if_false, if_true}
 use Rattle.mf_model.specs.declared.token.Kind.TheVariants.{Name, Number}
 use Rattle.mf_model.specs.declared.token.Span.{Span}
 use Rattle.mf_model.specs.declared.tree.Tree.{Tree}
@@ -26,7 +27,6 @@ use Rattle.mf_reader.specs.GrammarTerms.{IsListed}
 use Rattle.mf_reader.specs.GrammarExpressions.{IsExpr, IsMetricExpr}
 use Rattle.mf_reader.proofs.Branches.{seen_leaf, seen_branch, Below, by_parts, parts_below}
 use Rattle.mf_reader.proofs.Readings.{Reads, both_said, mapped_said, each_complete}
-use Rattle.mf_reader.proofs.Choices.{if_true, if_false}
 use Rattle.mf_reader.proofs.WordReadings.{face_leaf, text_complete, text_not}
 use Rattle.mf_reader.proofs.AtomReadings.{call_at_complete}
 use Rattle.mf_reader.proofs.HeadReadings.{expr_head_at, expr_other}

@@ -2,6 +2,7 @@
 use Rattle.std.proofs.Common.{◌≡◌, ℕ, ◌≤◌, List, [], ◌∷◌, length, map, refl, ap, sym, ◌∙◌, subst, inl, inr, codes, arith}
 use Rattle.std.specs.List.{AllByRecursion}
 use Rattle.std.specs.Str.{bytes_eq}
+use Rattle.mf_model.proofs.Choices.{same_text}
 use Rattle.mf_model.specs.declared.token.Kind.{Kind}
 use Rattle.mf_model.specs.declared.token.Kind.TheVariants.{Left, Right, Name, Variable, Keyword, Number, Sign, Plain}
 use Rattle.mf_model.specs.declared.token.Span.{Span}
@@ -26,7 +27,7 @@ use Rattle.mf_reader.specs.GrammarExpressions.{IsTerms, IsTotalTime}
 use Rattle.mf_reader.proofs.Branches.{seen_leaf, seen_branch, by_cases, Below, leaf_list, one_list}
 use Rattle.mf_reader.proofs.Readings.{Reads, some_fault, none_of_both, each_sound}
 use Rattle.mf_reader.proofs.Choices.{by_test}
-use Rattle.mf_reader.proofs.WordReadings.{same_text, true_false, text_sound, text_complete}
+use Rattle.mf_reader.proofs.WordReadings.{true_false, text_sound, text_complete}
 use Rattle.mf_reader.proofs.AtomReadings.{CallIs, call_at_sound}
 use Rattle.mf_reader.proofs.HeadReadings.{ExprWord, expr_word}
 use Rattle.mf_reader.proofs.ExprRows.{IsTimeIn, ExprIn, by_row}

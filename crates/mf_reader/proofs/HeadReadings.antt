@@ -2,6 +2,7 @@
 use Rattle.std.proofs.Common.{◌≡◌, ℕ, false, List, [], ◌∷◌, refl, ap, sym, ◌∙◌, subst, codes}
 use Rattle.std.specs.List.{list_any}
 use Rattle.std.specs.Str.{bytes_eq}
+use Rattle.mf_model.proofs.Choices.{if_false, same_text}
 use Rattle.mf_model.specs.declared.token.Kind.{Kind}
 use Rattle.mf_model.specs.declared.token.Kind.TheVariants.{Name}
 use Rattle.mf_model.specs.declared.token.Span.{Span}
@@ -20,8 +21,8 @@ use Rattle.mf_reader.specs.GrammarExpressions.{operators}
 use Rattle.mf_reader.specs.GrammarConditions.{relation_word, cond_words}
 use Rattle.mf_reader.specs.GrammarEffects.{op_word}
 use Rattle.mf_reader.proofs.Branches.{by_cases, leaf_list}
-use Rattle.mf_reader.proofs.Choices.{by_test, if_false, not_listed, none_more}
-use Rattle.mf_reader.proofs.WordReadings.{same_text, at_text, face_leaf, face_branch}
+use Rattle.mf_reader.proofs.Choices.{by_test, not_listed, none_more}
+use Rattle.mf_reader.proofs.WordReadings.{at_text, face_leaf, face_branch}
 
 -- a name is no list, and has one text
 name_text : (kind : Kind) (text : List ℕ) (span : Span) (w : Word) (t : Tree) → IsLeaf kind text span t → IsName w t → text ≡ w.text

@@ -1,6 +1,7 @@
 -- What is said of the init, the goal and the metric agrees with their forms.
 use Rattle.std.proofs.Common.{◌≡◌, ℕ, Bool, true, false, ◌⊎◌, if◌then◌else◌, Option, Some, None, List, [], ◌∷◌, map, refl, ap, sym, ◌∙◌, subst, inl, inr, codes}
 use Rattle.std.specs.Str.{bytes_eq}
+use Rattle.mf_model.proofs.Choices.{if_false, same_text}
 use Rattle.mf_model.specs.declared.token.Kind.{Kind}
 use Rattle.mf_model.specs.declared.token.Kind.TheVariants.{Left, Right, Name, Variable, Keyword, Number, Sign, Plain}
 use Rattle.mf_model.specs.declared.token.Span.{Span}
@@ -34,8 +35,8 @@ use Rattle.mf_reader.specs.GrammarConditions.{IsCond}
 use Rattle.mf_reader.specs.GrammarSections.{IsHeld, IsDenied, IsStartValue, AreStarts, AreMetric}
 use Rattle.mf_reader.proofs.Branches.{by_cases, one_list}
 use Rattle.mf_reader.proofs.Readings.{some_fault, none_of_both, both_said, mapped_said, each_sound, each_complete, all_reads}
-use Rattle.mf_reader.proofs.Choices.{by_test, if_false, not_listed}
-use Rattle.mf_reader.proofs.WordReadings.{true_false, same_text, text_same, at_text, not_true, name_reads, function_sound, function_complete, text_sound, text_complete, text_not, face_leaf, face_branch}
+use Rattle.mf_reader.proofs.Choices.{by_test, not_listed}
+use Rattle.mf_reader.proofs.WordReadings.{true_false, text_same, at_text, not_true, name_reads, function_sound, function_complete, text_sound, text_complete, text_not, face_leaf, face_branch}
 use Rattle.mf_reader.proofs.AtomReadings.{atom_reads}
 use Rattle.mf_reader.proofs.ExprSound.{first_same}
 use Rattle.mf_reader.proofs.ExprReadings.{metric_reads}

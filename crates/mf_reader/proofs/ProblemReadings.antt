@@ -3,6 +3,7 @@ use Rattle.std.proofs.Common.{◌≡◌, ℕ, Bool, true, false, ◌&&◌, ◌||
 use Rattle.std.specs.List.{list_any, AllByRecursion}
 use Rattle.std.specs.Option.{unwrap_or}
 use Rattle.std.specs.Str.{bytes_eq}
+use Rattle.mf_model.proofs.Choices.{and_true, if_true}
 use Rattle.mf_model.specs.declared.token.Span.{Span}
 use Rattle.mf_model.specs.declared.tree.Tree.{Tree}
 use Rattle.mf_model.specs.declared.tree.Tree.TheViews.{out-Tree}
@@ -34,7 +35,7 @@ use Rattle.mf_reader.specs.GrammarConditions.{IsCond}
 use Rattle.mf_reader.specs.GrammarSections.{AreMetric}
 use Rattle.mf_reader.specs.GrammarFiles.{IsHeadedBy, problem_sections, AreFacts, IsMetric, IsProblem}
 use Rattle.mf_reader.proofs.Readings.{some_fault, none_of_both, both_said, mapped_said}
-use Rattle.mf_reader.proofs.Choices.{by_test, if_true}
+use Rattle.mf_reader.proofs.Choices.{by_test}
 use Rattle.mf_reader.proofs.WordReadings.{true_false, text_sound, text_complete}
 use Rattle.mf_reader.proofs.TypedReadings.{objects_read}
 use Rattle.mf_reader.proofs.TitleReadings.{title_reads, word_sound, word_complete, requirements_sound, requirements_complete}
@@ -442,9 +443,6 @@ given_metric metric (Some a) h = subst (λ (o : Option RawMetric). OfFound (λ (
 
 same_problem : (p : Problem) (objects : List Typed) (atoms : List RawCond) (values : List RawValue) → objects ≡ p.objects → atoms ≡ p.atoms → values ≡ p.values → record { name = p.name; objects = objects; atoms = atoms; values = values; goal = p.goal; metric = p.metric } ≡ p
 same_problem p objects atoms values a b d = λ i. record { name = p.name; objects = a i; atoms = b i; values = d i; goal = p.goal; metric = p.metric }
-
-and_true : (a b : Bool) → a ≡ true → b ≡ true → (a && b) ≡ true
-and_true a b x y = ap (λ v. v && b) x ∙ y
 
 problem_complete : (p : Problem) (t : Tree) → IsProblem p t → problem_of t ≡ said p
 problem_complete p t h =

@@ -2,6 +2,7 @@
 use Rattle.std.proofs.Common.{◌≡◌, ℕ, Bool, true, false, ◌||◌, ◌⊎◌, Option, Some, None, List, ◌∷◌, refl, ap, sym, ◌∙◌, subst, inl, inr, codes}
 use Rattle.std.specs.List.{list_any}
 use Rattle.std.specs.Str.{bytes_eq}
+use Rattle.mf_model.proofs.Choices.{same_text}
 use Rattle.mf_model.specs.declared.token.Kind.{Kind}
 use Rattle.mf_model.specs.declared.token.Span.{Span}
 use Rattle.mf_model.specs.declared.tree.Tree.{Tree}
@@ -16,7 +17,7 @@ use Rattle.mf_reader.proofs.Branches.{by_cases, one_list}
 use Rattle.mf_reader.proofs.ExprSound.{first_same, rest_same}
 use Rattle.mf_reader.proofs.SlotReadings.{Filled}
 use Rattle.mf_reader.proofs.Choices.{by_test}
-use Rattle.mf_reader.proofs.WordReadings.{true_false, same_text, text_same, at_text, face_leaf, face_branch}
+use Rattle.mf_reader.proofs.WordReadings.{true_false, text_same, at_text, face_leaf, face_branch}
 
 -- A list has one head
 

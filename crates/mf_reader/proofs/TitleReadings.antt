@@ -2,6 +2,7 @@
 use Rattle.std.proofs.Common.{◌≡◌, ℕ, true, List, [], ◌∷◌, refl, ap, ◌∙◌}
 use Rattle.std.specs.List.{list_any, AllByRecursion}
 use Rattle.std.specs.Str.{bytes_eq}
+use Rattle.mf_model.proofs.Choices.{if_true}
 use Rattle.mf_model.specs.declared.token.Kind.{Kind}
 use Rattle.mf_model.specs.declared.token.Kind.TheVariants.{Left, Right, Name, Variable, Keyword, Number, Sign, Plain}
 use Rattle.mf_model.specs.declared.token.Span.{Span}
@@ -17,7 +18,7 @@ use Rattle.mf_reader.specs.Requirements.{known, is_known, requirement_leaf, requ
 use Rattle.mf_reader.specs.Titles.{any_layer, one_word, title_layer, title_of}
 use Rattle.mf_reader.specs.GrammarSections.{IsRequirement}
 use Rattle.mf_reader.proofs.Readings.{some_fault, none_of_both, both_said}
-use Rattle.mf_reader.proofs.Choices.{by_test, if_true}
+use Rattle.mf_reader.proofs.Choices.{by_test}
 use Rattle.mf_reader.proofs.WordReadings.{text_sound, text_complete}
 
 -- Names

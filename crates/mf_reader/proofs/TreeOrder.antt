@@ -1,14 +1,15 @@
 -- In a tree whose spans are nested and in a row, the faults of each place stand in order.
-use Rattle.std.proofs.Common.{◌≡◌, ℕ, ◌+◌, ◌-◌, ◌<◌, ◌≤◌, List, [], ◌∷◌, map, refl, ap, sym, ◌∙◌, subst, arith}
+use Rattle.std.proofs.Common.{◌≡◌, ℕ, ◌+◌, ◌-◌, ◌<◌, ◌≤◌, List, [], ◌∷◌, map, ap, sym, ◌∙◌, subst, arith}
 use Rattle.std.specs.List.{AllByRecursion}
 use Rattle.mf_model.specs.declared.token.Kind.{Kind}
 use Rattle.mf_model.specs.declared.token.Span.{Span}
 use Rattle.mf_model.specs.declared.tree.Tree.{Tree, map-Tree}
 use Rattle.mf_model.specs.declared.tree.Tree.TheViews.{out-Tree, roll-out-Tree}
 use Rattle.mf_model.specs.declared.tree.Tree.TheOpen.{Tree-F}
-use Rattle.mf_model.specs.declared.tree.Tree.TheFolds.{fold_out-Tree, rec-roll-Tree}
+use Rattle.mf_model.specs.declared.tree.Tree.TheFolds.{fold_out-Tree}
 use Rattle.mf_model.specs.Forms.{IsLeaf, IsList}
 use Rattle.mf_model.specs.Trees.{span_step, span_of, InRow, placed_form, IsPlaced}
+use Rattle.mf_model.proofs.PlacedTrees.{placed_roll}
 use Rattle.mf_reader.specs.declared.places.EffectPlace.TheVariants as effect_place
 use Rattle.mf_reader.specs.declared.places.ExprPlace.TheVariants as expr_place
 use Rattle.mf_reader.specs.Faces.{Leaf}
@@ -28,22 +29,10 @@ span_leaf kind text span t h = fold_out-Tree Span span_step t ∙ ap (λ (x : Tr
 pub span_branch : (items : List Tree) (span : Span) (t : Tree) → IsList items span t → span_of t ≡ span
 span_branch items span t h = fold_out-Tree Span span_step t ∙ ap (λ (x : Tree-F Tree). span_step (map-Tree Tree Span span_of x)) h
 
-row_natural : (X : Type 0) (v : X → Tree) (k : Tree → Type 0) (from : ℕ) (xs : List X) (to : ℕ) → InRow X (λ x. span_of (v x)) (λ p. k (v p)) from xs to ≡ InRow Tree span_of k from (map v xs) to
-row_natural X v k from [] to = refl
-row_natural X v k from (x ∷ xs) to =
-    let rest = row_natural X v k (span_of (v x)).end xs to in
-    λ i. (from ≤ (span_of (v x)).start) × k (v x) × rest i
-
-natural : (X : Type 0) (v : X → Tree) (k : Tree → Type 0) (x : Tree-F X) → placed_form X v (λ p. k (v p)) x ≡ placed_form Tree (λ y. y) k (map-Tree X Tree v x)
-natural X v k (Tree-F.Leaf kind text span) = refl
-natural X v k (Tree-F.Branch items span) =
-    let row = row_natural X v k (span.start + 1) items (span.end - 1) in
-    λ i. (span.start < span.end) × row i
-
 placed_layer : (t : Tree) (x : Tree-F Tree) → out-Tree t ≡ x → IsPlaced t → placed_form Tree (λ y. y) IsPlaced x
 placed_layer t x is h =
     subst (λ (y : Tree-F Tree). placed_form Tree (λ z. z) IsPlaced y) is
-    (subst (λ (T : Type 0). T) (ap IsPlaced (sym (roll-out-Tree t)) ∙ rec-roll-Tree (Type 0) placed_form natural (out-Tree t)) h)
+    (subst (λ (T : Type 0). T) (ap IsPlaced (sym (roll-out-Tree t)) ∙ placed_roll (out-Tree t)) h)
 
 pub leaf_placed : (kind : Kind) (text : List ℕ) (span : Span) (t : Tree) → IsLeaf kind text span t → IsPlaced t → span.start < span.end
 leaf_placed kind text span t leaf h = placed_layer t (Tree-F.Leaf kind text span) leaf h

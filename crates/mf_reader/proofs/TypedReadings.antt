@@ -1,6 +1,7 @@
 -- What is said of types and typed lists agrees with their forms.
 use Rattle.std.proofs.Common.{◌≡◌, ◌≢◌, Bool, true, false, if◌then◌else◌, List, [], ◌∷◌, ◌++◌, map, refl, ap, sym, ◌∙◌, subst, inl, inr, codes, append_assoc}
 use Rattle.std.proofs.lemmas.List.{append-nil}
+use Rattle.mf_model.proofs.Choices.{if_false, if_true}
 use Rattle.mf_model.specs.declared.token.Kind.TheVariants.{Name}
 use Rattle.mf_model.specs.declared.token.Span.{Span}
 use Rattle.mf_model.specs.declared.tree.Tree.{Tree}
@@ -17,7 +18,7 @@ use Rattle.mf_reader.specs.Typed.{alone, either_types, list_types, list_parent, 
 use Rattle.mf_reader.specs.GrammarTerms.{IsNamedType, IsType, Group, IsDash, IsItem, AreGrouped, typed_as, typed_items, AreTyped, IsVariableList}
 use Rattle.mf_reader.proofs.Branches.{seen_leaf, seen_branch, by_cases}
 use Rattle.mf_reader.proofs.Readings.{Reads, some_fault, none_of_both, both_said, mapped_said, each_sound, each_complete, all_reads}
-use Rattle.mf_reader.proofs.Choices.{by_test, if_true, if_false}
+use Rattle.mf_reader.proofs.Choices.{by_test}
 use Rattle.mf_reader.proofs.WordReadings.{true_false, name_reads, variable_reads, text_sound, text_complete, text_not}
 
 -- Types in `:types`

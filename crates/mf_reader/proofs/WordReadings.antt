@@ -2,6 +2,7 @@
 use Rattle.std.proofs.Common.{◌≡◌, ℕ, Bool, true, false, if◌then◌else◌, Option, Some, None, List, [], refl, ap, sym, ◌∙◌, subst, inl, inr}
 use Rattle.std.specs.Str.{bytes_eq}
 use Rattle.std.proofs.lemmas.Slice.Eq.{bytes_eq-Decides}
+use Rattle.mf_model.proofs.Choices.{same_text, some_same}
 use Rattle.mf_model.specs.declared.token.Kind.{Kind}
 use Rattle.mf_model.specs.declared.token.Kind.TheVariants.{Left, Right, Name, Variable, Keyword, Number, Sign, Plain}
 use Rattle.mf_model.specs.declared.token.Span.{Span}
@@ -98,9 +99,6 @@ is_term_of t w h = elim h [
 
 -- Words of a text
 
-pub same_text : (xs ys : List ℕ) → bytes_eq xs ys ≡ true → xs ≡ ys
-same_text xs ys e = (bytes_eq-Decides xs ys).0 e
-
 pub text_same : (xs : List ℕ) → bytes_eq xs xs ≡ true
 text_same xs = (bytes_eq-Decides xs xs).1 refl
 
@@ -129,9 +127,6 @@ text_not text t lacks = not_true (has_text text (seen t).face) (λ e. lacks (tex
 
 some_is : {A B : Type 0} (x : A) (o : Option A) → None ≡ Some x → B
 some_is x o e = let h : ⊥ = cc in absurd h
-
-some_same : {A : Type 0} (x y : A) → Some x ≡ Some y → x ≡ y
-some_same x y e = cc
 
 name_of_leaf : (kind : Kind) (text : List ℕ) (span : Span) (t : Tree) (w : Word) → IsLeaf kind text span t → function_of (Leaf kind text span) ≡ Some w → IsName w t
 name_of_leaf Name text span t w h e = subst (λ (v : Word). IsName v t) (some_same (word text span) w e) h

@@ -2,6 +2,7 @@
 use Rattle.std.proofs.Common.{◌≡◌, ℕ, ◌+◌, ◌-◌, ◌≤◌, true, false, if◌then◌else◌, nat_le, List, [], ◌∷◌, ◌++◌, map, length, sym, ◌∙◌, arith, length-append}
 use Rattle.std.proofs.lemmas.Bool.Decides.{nat_tests}
 use Rattle.std.proofs.lemmas.List.{length-map}
+use Rattle.mf_model.proofs.Choices.{if_true}
 use Rattle.mf_model.specs.declared.form.FileKind.TheVariants.{DomainFile, ProblemFile}
 use Rattle.mf_model.specs.declared.form.Word.{Word}
 use Rattle.mf_model.specs.declared.form.Typed.{Typed}
@@ -18,7 +19,7 @@ use Rattle.mf_types.specs.Uses.{in_domain}
 use Rattle.mf_types.proofs.Faultless.{faultless_lists}
 use Rattle.mf_types.proofs.TaskReadings.{are_within}
 use Rattle.mf_types.proofs.There.{first_empty, second_empty}
-use Rattle.mf_types.proofs.ThereScopes.{few_words, if_true}
+use Rattle.mf_types.proofs.ThereScopes.{few_words}
 
 -- first ones of each name are no more than all
 few_firsts : {A : Type 0} (name : A → List ℕ) (seen : List (List ℕ)) (items : List A) → length (firsts name seen items) ≤ length items

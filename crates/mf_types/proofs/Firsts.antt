@@ -1,10 +1,10 @@
 -- Names entered one after another are the first ones of each name; the parent of a type is that of its first item.
 use Rattle.std.proofs.Common.{◌≡◌, ℕ, suc, ◌+◌, ◌<◌, Bool, true, false, cond, ◌||◌, not, if◌then◌else◌, nat_lt, Some, None, List, [], ◌∷◌, ◌++◌, map, length, refl, ap, ◌∙◌, sym, subst, arith, append_assoc, add-one, drop, drop-cons, get_or}
 use Rattle.std.proofs.lemmas.List.{append-nil, map-append}
-use Rattle.std.proofs.lemmas.Slice.Eq.{bytes_eq-Decides}
 use Rattle.std.proofs.lemmas.Bool.Decides.{nat_tests}
 use Rattle.std.specs.List.{list_any, position, position_or_len}
 use Rattle.std.specs.Str.{bytes_eq}
+use Rattle.mf_model.proofs.Choices.{same_text}
 use Rattle.mf_model.specs.declared.form.Typed.{Typed}
 use Rattle.mf_model.specs.declared.form.Word.{Word}
 use Rattle.mf_types.specs.Names.{is_member, firsts, item_text, text_of, object_name, type_names, type_words, type_firsts, item_types, types_of, kept_types, head_or_zero, parent_in, parents_of}
@@ -42,9 +42,6 @@ pub parent_by-cons : (own : List (List ℕ)) (types : List (List ℕ)) (name x :
 parent_by-cons own types name x t =
     ap (first_at (t ∷ types)) (position-cons (λ o. bytes_eq o name) x own)
     ∙ first-cons (bytes_eq x name) (nat_lt (position_or_len (λ o. bytes_eq o name) own) (length own)) (position_or_len (λ o. bytes_eq o name) own) t types
-
-pub same_text : (xs ys : List ℕ) → bytes_eq xs ys ≡ true → xs ≡ ys
-same_text xs ys e = (bytes_eq-Decides xs ys).0 e
 
 no_name : (seen : List (List ℕ)) (t name : List ℕ) (b : Bool) → is_member seen t ≡ true → is_member seen name ≡ false → bytes_eq t name ≡ b → b ≡ false
 no_name seen t name true stands absent e = let same : t ≡ name = same_text t name e in let there : is_member seen name ≡ true = subst (λ (n : List ℕ). is_member seen n ≡ true) same stands in cc

@@ -1,7 +1,8 @@
 -- What holds of a value where a reading gives one.
-use Rattle.std.proofs.Common.{◌≡◌, ℕ, suc, Bool, true, false, ◌&&◌, Option, Some, None, List, [], ◌∷◌, map, length, refl, subst, ap, ◌∙◌, All}
+use Rattle.std.proofs.Common.{◌≡◌, ℕ, suc, Bool, true, false, ◌&&◌, Option, Some, None, List, [], ◌∷◌, map, length, refl, subst, ap, All}
 use Rattle.std.specs.List.{list_all}
 use Rattle.std.proofs.lemmas.List.Elements.{All-nil, All-cons}
+use Rattle.mf_model.proofs.Choices.{and_true}
 use Rattle.mf_model.specs.Plain.{all_true}
 use Rattle.mf_model.specs.Options.{◌>>=◌, each, all_some}
 use Rattle.mf_types.specs.Typing.{both}
@@ -38,9 +39,6 @@ cons_given : {A : Type 0} (Q : A → Type 0) (R P : List A → Type 0) (o : Opti
 cons_given Q R P None p h k j = tt
 cons_given Q R P (Some x) None h k j = tt
 cons_given Q R P (Some x) (Some xs) h k j = j x xs h k
-
-pub and_true : (a b : Bool) → a ≡ true → b ≡ true → (a && b) ≡ true
-and_true a b e h = ap (λ x. x && b) e ∙ h
 
 pub first_true : (a b : Bool) → (a && b) ≡ true → a ≡ true
 first_true true b e = refl

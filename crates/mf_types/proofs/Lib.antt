@@ -1,5 +1,4 @@
 pub mod After
-pub mod Ancestors
 pub mod Ascent
 pub mod EndZeros
 pub mod Examples

@@ -6,6 +6,7 @@ use Rattle.std.proofs.lemmas.Bool.Decides.{Decides-eqb}
 use Rattle.std.proofs.lemmas.List.{get_or-map, get_or_past}
 use Rattle.std.proofs.lemmas.List.Elements.{All-get_or}
 use Rattle.std.proofs.lemmas.List.Quantifiers.{position-Some}
+use Rattle.mf_model.proofs.Choices.{same_text}
 use Rattle.mf_model.specs.declared.form.Typed.{Typed}
 use Rattle.mf_model.specs.declared.form.Word.{Word}
 use Rattle.mf_model.specs.Objects.{meets, member}
@@ -14,7 +15,7 @@ use Rattle.mf_types.specs.Ascent.{parent_at, up, IsOnCycle}
 use Rattle.mf_types.specs.Cycles.{all_above, begins_cycle, number_or_zero, type_number, with_type, cycle_at, cycles_from, cycle_faults}
 use Rattle.mf_types.specs.Names.{Declared, kept_types, numbers_by, numbers_of, types_of, head_or_zero, parent_in}
 use Rattle.mf_types.proofs.Ascent.{up_last, above_on_cycle, above_itself, some_above}
-use Rattle.mf_types.proofs.Firsts.{any-push, same_text}
+use Rattle.mf_types.proofs.Firsts.{any-push}
 use Rattle.mf_types.proofs.Narrow.{every}
 use Rattle.mf_types.proofs.Repetition.{HasCycle}
 use Rattle.mf_types.proofs.There.{first_empty, second_empty, not_met}

@@ -2,6 +2,7 @@
 use Rattle.std.proofs.Common.{◌≡◌, ℕ, zero, suc, ◌+◌, ◌-◌, ◌≤◌, Bool, true, false, if◌then◌else◌, nat_le, Option, Some, None, List, [], ◌∷◌, ◌++◌, length, slice_get, refl, sym, subst, ap, ◌∙◌, arith, length-append}
 use Rattle.std.proofs.lemmas.Bool.Decides.{nat_tests}
 use Rattle.std.proofs.lemmas.List.{map-append, length-map}
+use Rattle.mf_model.proofs.Choices.{if_true}
 use Rattle.mf_model.specs.declared.form.FileKind.{FileKind}
 use Rattle.mf_model.specs.declared.form.Word.{Word}
 use Rattle.mf_model.specs.declared.form.Typed.{Typed}
@@ -28,10 +29,6 @@ short (suc n) (item ∷ items) e = let h = short n items e in omega arith
 
 pub few_words : (file : FileKind) (limit : ℕ) (ws : List Word) → beyond file limit ws ≡ [] → length ws ≤ limit
 few_words file limit ws e = short limit ws (none_beyond file (slice_get ws limit) e)
-
-pub if_true : {A : Type 0} (b : Bool) (x y : A) → b ≡ true → (if b then x else y) ≡ x
-if_true true x y e = refl
-if_true false x y e = let h : ⊥ = cc in absurd h
 
 pub within_test : (n : ℕ) → n ≤ 64 → nat_le n 64 ≡ true
 within_test n h = grind (arith, nat_tests)

@@ -3,6 +3,7 @@ use Rattle.std.proofs.Common.{◌≡◌, ℕ, ◌+◌, ◌<◌, Bool, true, fals
 use Rattle.std.specs.List.{list_all}
 use Rattle.std.proofs.lemmas.List.{length-map}
 use Rattle.std.proofs.lemmas.List.Elements.{All-head, All-tail}
+use Rattle.mf_model.proofs.Choices.{and_true}
 use Rattle.mf_model.specs.declared.form.Word.{Word}
 use Rattle.mf_model.specs.declared.form.Typed.{Typed}
 use Rattle.mf_model.specs.declared.form.RawCond.{RawCond}
@@ -23,7 +24,7 @@ use Rattle.mf_types.specs.Valid as valid
 use Rattle.mf_types.specs.Valid.{Counts, are_types, are_type_lists, is_valid_term, is_valid_use, is_valid_expr, is_valid_cond, is_valid_quantifier}
 use Rattle.mf_types.specs.Written as written
 use Rattle.mf_types.specs.Written.{is_written_expr, is_written_cond}
-use Rattle.mf_types.proofs.Given.{IfGiven, Read, then_given, made_given, both_given, parts_given, all_at, and_true, first_true, second_true}
+use Rattle.mf_types.proofs.Given.{IfGiven, Read, then_given, made_given, both_given, parts_given, all_at, first_true, second_true}
 use Rattle.mf_types.proofs.Narrow.{AreBelow, types_below}
 use Rattle.mf_types.proofs.ValidTerms.{counted, AreEven, lt_true, term_valid, terms_valid, symbol_valid, use_valid}
 use Rattle.mf_types.proofs.ValidExpressions.{expr_valid}

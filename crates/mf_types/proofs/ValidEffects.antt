@@ -1,5 +1,6 @@
 -- Effects that are read are valid.
 use Rattle.std.proofs.Common.{◌≡◌, ℕ, ◌<◌, Bool, true, false, Option, List, map, length, slice_get, subst, sym, ap, ◌∙◌}
+use Rattle.mf_model.proofs.Choices.{and_true}
 use Rattle.mf_model.specs.declared.form.RawEffect.{RawEffect}
 use Rattle.mf_model.specs.declared.form.RawEffect.TheOpen.{RawEffect-F}
 use Rattle.mf_model.specs.declared.form.RawEffect.TheFolds.{ind-RawEffect, fold-roll-RawEffect, map-RawEffect}
@@ -18,7 +19,7 @@ use Rattle.mf_types.specs.Valid as valid
 use Rattle.mf_types.specs.Valid.{Counts, is_valid_term, is_valid_use, is_valid_expr, is_valid_cond, is_valid_effect}
 use Rattle.mf_types.specs.Written as written
 use Rattle.mf_types.specs.Written.{is_written_cond, is_written_effect}
-use Rattle.mf_types.proofs.Given.{IfGiven, Read, then_given, made_given, both_given, parts_given, all_at, and_true, first_true, second_true}
+use Rattle.mf_types.proofs.Given.{IfGiven, Read, then_given, made_given, both_given, parts_given, all_at, first_true, second_true}
 use Rattle.mf_types.proofs.ValidTerms.{counted, AreEven, terms_valid, symbol_valid, use_valid}
 use Rattle.mf_types.proofs.ValidExpressions.{expr_valid}
 use Rattle.mf_types.proofs.ValidConditions.{IsInside, within_valid, quantifier_valid, atom_valid, cond_valid}

@@ -1,6 +1,7 @@
 -- Expressions that are read are valid.
 use Rattle.std.proofs.Common.{◌≡◌, ℕ, ◌<◌, Bool, true, nat_eq, nat_le, nat_lt, Option, Some, None, List, [], ◌∷◌, map, length, slice_get, slice_index_or, codes, refl, subst, sym, ap, ◌∙◌, arith}
 use Rattle.std.proofs.lemmas.List.{length-map}
+use Rattle.mf_model.proofs.Choices.{and_true}
 use Rattle.mf_model.specs.declared.form.RawExpr.{RawExpr}
 use Rattle.mf_model.specs.declared.form.RawExpr.TheOpen.{RawExpr-F}
 use Rattle.mf_model.specs.declared.form.RawExpr.TheFolds.{ind-RawExpr, fold-roll-RawExpr, map-RawExpr}
@@ -18,7 +19,7 @@ use Rattle.mf_types.specs.Valid as valid
 use Rattle.mf_types.specs.Valid.{Counts, is_valid_term, is_valid_expr}
 use Rattle.mf_types.specs.Written as written
 use Rattle.mf_types.specs.Written.{is_written_expr}
-use Rattle.mf_types.proofs.Given.{IfGiven, Read, anything, then_given, made_given, both_given, parts_given, all_map, and_true, first_true, second_true}
+use Rattle.mf_types.proofs.Given.{IfGiven, Read, anything, then_given, made_given, both_given, parts_given, all_map, first_true, second_true}
 use Rattle.mf_types.proofs.ValidTerms.{counted, AreEven, terms_valid, symbol_valid, use_valid, number_below, counts_at, lt_of}
 
 pub rolled : (counts : Counts) (timed : Bool) (variables : ℕ) (whole : Expr) (y : Expr-F Expr) → roll-Expr y ≡ whole → is_valid_expr counts timed variables whole ≡ valid.expr_step counts timed variables (map-Expr Expr Bool (is_valid_expr counts timed variables) y)

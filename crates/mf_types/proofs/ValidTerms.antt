@@ -3,6 +3,7 @@ use Rattle.std.proofs.Common.{◌≡◌, ℕ, zero, suc, ◌+◌, ◌<◌, ◌�
 use Rattle.std.specs.Str.{bytes_eq}
 use Rattle.std.proofs.lemmas.Bool.Decides.{nat_tests}
 use Rattle.std.proofs.lemmas.List.Quantifiers.{position-Some}
+use Rattle.mf_model.proofs.Choices.{and_true}
 use Rattle.mf_model.specs.declared.form.Word.{Word}
 use Rattle.mf_model.specs.declared.task.Term.{Term}
 use Rattle.mf_model.specs.Resolution.{number_of, takes}
@@ -11,7 +12,7 @@ use Rattle.mf_types.specs.Names.{Declared}
 use Rattle.mf_types.specs.Tasks.{objects_of}
 use Rattle.mf_types.specs.Typing.{Binders, last_from, place_in, variable_at, object_at, term_of, terms_of, symbol_of}
 use Rattle.mf_types.specs.Valid.{Counts, is_valid_term, are_valid_terms, is_valid_use, are_objects, is_ground}
-use Rattle.mf_types.proofs.Given.{IfGiven, Read, given, then_given, each_given, and_true}
+use Rattle.mf_types.proofs.Given.{IfGiven, Read, given, then_given, each_given}
 
 -- what is declared, counted
 abbrev pub counted : Declared → Counts

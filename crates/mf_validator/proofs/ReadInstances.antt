@@ -7,6 +7,7 @@ use Rattle.std.proofs.Math.ListN.{get_or-map}
 use Rattle.std.proofs.lemmas.List.{append-nil, length-map}
 use Rattle.std.proofs.lemmas.List.Elements.{All-nil, All-cons, All-append, Contains-append_left, Contains-append_right}
 use Rattle.std.proofs.lemmas.List.Quantifiers.{position-Some}
+use Rattle.mf_model.proofs.Choices.{some_same}
 use Rattle.mf_model.specs.declared.state.Instance.{Instance}
 use Rattle.mf_model.specs.declared.task.Action.{Action}
 use Rattle.mf_model.specs.declared.task.TypedTask.{TypedTask}
@@ -57,9 +58,6 @@ having-it types n (suc k) (own ∷ kinds) h =
     let same : (n + 1) + k ≡ n + suc k = omega arith in
     behind_one (meets types own) n (having types (n + 1) kinds) (n + suc k)
     (subst (λ m. Contains (having types (n + 1) kinds) m) same (having-it types (n + 1) k kinds h))
-
-some_same : (m n : ℕ) → Some m ≡ Some n → m ≡ n
-some_same m n e = cc
 
 fits_by : (task : TypedTask) (types : List ℕ) (meeting : Bool) (number object : ℕ) → meets types (slice_index_or (kinds_of task) number []) ≡ meeting → (if meeting then Some number else None) ≡ Some object
     → Contains (having types 0 (kinds_of task)) object

@@ -1,6 +1,6 @@
 use Rattle.std.proofs.Common.{◌≡◌, ℕ, ◌+◌, ◌-◌, arith, ap, ◌∙◌, length, map}
 use Rattle.mf_model.specs.Objects.{ancestors, member}
-use Rattle.mf_eval.proofs.Ancestors.{member-ancestors_more}
+use Rattle.mf_model.proofs.Ancestors.{member-ancestors_more}
 use Rattle.mf_eval.proofs.kinds.descends.Goals as goal
 
 pub loop-step-preserved : goal.loop-step-preserved

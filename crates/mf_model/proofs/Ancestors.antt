@@ -9,7 +9,6 @@ apart n m h = grind (arith, nat_tests)
 past : (w t : ℕ) (rest : List ℕ) (a b : Bool) → nat_eq w t ≡ a → nat_eq t 0 ≡ b → a ≡ false → b ≡ false → member w rest ≡ member w (t ∷ (if nat_eq t 0 then [] else rest))
 past w t rest a b e f g h = rw (e, f, g, h) refl
 
--- one step up
 pub member-ancestors_more : (parents : List ℕ) (n t w next : ℕ) → 0 < n → (t ≡ w → ⊥) → (t ≡ 0 → ⊥) → next ≡ slice_index_or parents t 0 → member w (ancestors parents (n - 1) next) ≡ member w (ancestors parents n t)
 member-ancestors_more parents zero t w next h a b e = absurd (omega arith)
 member-ancestors_more parents (suc n) t w next h a b e =
