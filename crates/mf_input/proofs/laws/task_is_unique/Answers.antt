@@ -2,4 +2,4 @@ use Rattle.mf_input.proofs.OneTask.{only_task}
 use Rattle.mf_input.proofs.laws.task_is_unique.Goals as goal
 
 pub returns : goal.returns
-returns c = λ domain problem left right one other. only_task domain problem left right one other
+returns c = only_task
