@@ -21,9 +21,9 @@ use Rattle.mf_model.specs.declared.task.Term.TheVariants.{Variable, Object}
 use Rattle.mf_model.specs.declared.task.TypedTask.{TypedTask}
 use Rattle.mf_model.specs.declared.task.Valued.{Valued}
 use Rattle.mf_types.specs.Limits.{HaveFewParameters}
-use Rattle.mf_types.proofs.FewParameters.{parameters_few}
 use Rattle.mf_types.specs.Valid.{Counts, counts_of, parameter_count, is_valid_term, are_valid_terms, is_valid_use, cond_step, is_valid_cond, effect_step, is_valid_effect, are_objects, is_valid_atom, is_valid_value, IsValidAction, IsValidTask}
 use Rattle.mf_input.specs.Files.{IsTaskOfFiles}
+use Rattle.mf_input.proofs.RoomTask.{files_fit}
 use Rattle.mf_input.proofs.ValidFiles.{files_valid}
 use Rattle.mf_plain.specs.Changes.{changes_step, only_changes_atoms}
 use Rattle.mf_plain.specs.Conjunctions.{conjunction_step, is_conjunction}
@@ -169,5 +169,4 @@ searched_is_plain task searched = record {
 
 pub plain_where_searched : (domain problem : List ℕ) (task : TypedTask) → IsTaskOfFiles domain problem task → (IsPlainTask task ↔ IsSearchTask task)
 plain_where_searched domain problem task is =
-    let few = parameters_few is.domain is.problem task is.faultless is.task_of in
-    (plain_is_searched task (files_valid domain problem task is) few, searched_is_plain task)
+    (plain_is_searched task (files_valid domain problem task is) (files_fit domain problem task is).parameters, searched_is_plain task)
