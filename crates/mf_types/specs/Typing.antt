@@ -29,6 +29,10 @@ use Rattle.mf_model.specs.Resolution.{number_of, typed_names}
 use Rattle.mf_types.specs.Names.{Declared, item_types}
 use Rattle.mf_types.specs.Arguments.{is_variable}
 
+-- what is made of one part that is read, or of two
+abbrev pub one : {A B : Type 0} → (A → B) → Option A → Option B
+one make part = part >>= (λ a. Some (make a))
+
 abbrev pub both : {A B C : Type 0} → (A → B → C) → Option A → Option B → Option C
 both make left right = left >>= (λ a. right >>= (λ b. Some (make a b)))
 
@@ -107,12 +111,12 @@ term_expr declared function terms binders =
     function_of declared function.text (length terms) >>= (λ n. terms_of declared binders terms >>= (λ ts. Some (x.Function n ts)))
 
 abbrev pub expr_step : Declared → RawExpr-F (Binders → Option Expr) → Binders → Option Expr
-expr_step declared (RawExpr-F.Number word span) binders = number_in word >>= (λ number. Some (x.Number number))
+expr_step declared (RawExpr-F.Number word span) binders = one x.Number (number_in word)
 expr_step declared (RawExpr-F.Function function terms span) binders = term_expr declared function terms binders
-expr_step declared (RawExpr-F.Sum parts span) binders = all_some (map (λ part. part binders) parts) >>= (λ es. Some (x.Sum es))
+expr_step declared (RawExpr-F.Sum parts span) binders = one x.Sum (all_some (map (λ part. part binders) parts))
 expr_step declared (RawExpr-F.Difference left right span) binders = both x.Difference (left binders) (right binders)
-expr_step declared (RawExpr-F.Negative part span) binders = part binders >>= (λ a. Some (x.Negative a))
-expr_step declared (RawExpr-F.Product parts span) binders = all_some (map (λ part. part binders) parts) >>= (λ es. Some (x.Product es))
+expr_step declared (RawExpr-F.Negative part span) binders = one x.Negative (part binders)
+expr_step declared (RawExpr-F.Product parts span) binders = one x.Product (all_some (map (λ part. part binders) parts))
 expr_step declared (RawExpr-F.Quotient left right span) binders = both x.Quotient (left binders) (right binders)
 expr_step declared (RawExpr-F.TotalTime span) binders = total_time declared
 
@@ -129,7 +133,7 @@ abbrev pub within : {A : Type 0} → List Typed → (Binders → Option A) → B
 within items part binders = inside binders items >>= part
 
 abbrev pub quantified : {A : Type 0} → Declared → (List (List ℕ) → A → A) → List Typed → (Binders → Option A) → Binders → Option A
-quantified declared make items part binders = within items part binders >>= (λ inner. Some (make (types_in declared items) inner))
+quantified declared make items part binders = one (make (types_in declared items)) (within items part binders)
 
 -- Conditions
 
@@ -143,9 +147,9 @@ cond_step declared (RawCond-F.Same left right span) binders =
     both c.Same (term_of declared binders left) (term_of declared binders right)
 cond_step declared (RawCond-F.Compare relation left right span) binders =
     both (c.Compare relation) (expr_of declared left binders) (expr_of declared right binders)
-cond_step declared (RawCond-F.Not part span) binders = part binders >>= (λ a. Some (c.Not a))
-cond_step declared (RawCond-F.And parts span) binders = all_some (map (λ part. part binders) parts) >>= (λ cs. Some (c.And cs))
-cond_step declared (RawCond-F.Or parts span) binders = all_some (map (λ part. part binders) parts) >>= (λ cs. Some (c.Or cs))
+cond_step declared (RawCond-F.Not part span) binders = one c.Not (part binders)
+cond_step declared (RawCond-F.And parts span) binders = one c.And (all_some (map (λ part. part binders) parts))
+cond_step declared (RawCond-F.Or parts span) binders = one c.Or (all_some (map (λ part. part binders) parts))
 cond_step declared (RawCond-F.Imply left right span) binders = both c.Imply (left binders) (right binders)
 cond_step declared (RawCond-F.All variables part span) binders = quantified declared c.All variables part binders
 cond_step declared (RawCond-F.Any variables part span) binders = quantified declared c.Any variables part binders
@@ -170,7 +174,7 @@ abbrev pub effect_step : Declared → RawEffect-F (Binders → Option Effect) �
 effect_step declared (RawEffect-F.Add predicate terms span) binders = literal declared e.Add predicate terms binders
 effect_step declared (RawEffect-F.Delete predicate terms span) binders = literal declared e.Delete predicate terms binders
 effect_step declared (RawEffect-F.Change op function terms value span) binders = change declared op function terms value binders
-effect_step declared (RawEffect-F.Group parts span) binders = all_some (map (λ part. part binders) parts) >>= (λ es. Some (e.Group es))
+effect_step declared (RawEffect-F.Group parts span) binders = one e.Group (all_some (map (λ part. part binders) parts))
 effect_step declared (RawEffect-F.Each variables part span) binders =
     quantified declared e.Each variables part binders
 effect_step declared (RawEffect-F.When condition part span) binders =

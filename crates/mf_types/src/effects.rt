@@ -12,7 +12,7 @@ use crate::least::Fault;
 use crate::quantified::variables;
 use crate::scope::{Variable, enter};
 use crate::site::Site;
-use mf_model::{Op, RawCond, RawEffect, RawExpr, Span, Typed, Word};
+use mf_model::{List, Op, RawCond, RawEffect, RawExpr, Span, Typed, Word};
 use std::alloc::{AllocError, Global};
 
 /// Whether an effect with such a value is linear: a scaling only by a constant.
@@ -36,14 +36,14 @@ fn change(
     scope: &[Variable],
     op: Op,
     name: &Word,
-    terms: &[Word],
+    terms: &List<Word>,
     value: &RawExpr,
     span: Span,
 ) -> Option<Fault>
     ensures { result ≡ after best
         (spec.change_faults (site_of site.now) op name.now terms.now value.now span scope.now) }
 {
-    let best = function(site, best, scope, name, terms);
+    let best = function(site, best, scope, name, terms.as_slice());
     let value = expression(site, best, scope, value);
     linear(site, value.best, span, fits(op, value.constant))
 }
@@ -78,16 +78,10 @@ pub(crate) fn effect(
             terms,
             value,
             span,
-        } => Ok(change(
-            site,
-            best,
-            scope.as_slice(),
-            *op,
-            function,
-            terms.as_slice(),
-            value,
-            *span,
-        )),
+        } => {
+            let scope = scope.as_slice();
+            Ok(change(site, best, scope, *op, function, terms, value, *span))
+        }
         RawEffect::Group { parts, .. } => effects(alloc, site, best, scope, parts.as_slice()),
         RawEffect::Each {
             variables,

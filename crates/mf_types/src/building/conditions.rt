@@ -72,18 +72,7 @@ fn comparison(
     compared(relation, left, right)
 }
 
-/// The implication of a part and another one, if that was read.
-fn implication(left: Boxed<Cond>, right: Result<Boxed<Cond>, Refusal>) -> Result<Cond, Refusal>
-    ensures { result ≡ made (cond.Imply left) right }
-{
-    match right {
-        Ok(right) => Ok(Cond::Imply { left, right }),
-        Err(refusal) => Err(refusal),
-    }
-}
-
 /// A condition over numbers.
-#[tactic(auto, using(crate::proofs::Made::made_gives))]
 #[cycle(condition)]
 pub(crate) fn condition(
     alloc: Global,
@@ -108,48 +97,138 @@ pub(crate) fn condition(
             right,
             ..
         } => comparison(alloc, tables, binders, *relation, left, right),
-        RawCond::Not { part, .. } => {
-            let part = boxed(alloc, tables, binders, part.get())?;
-            Ok(Cond::Not { part })
-        }
-        RawCond::And { parts, .. } => {
-            let parts = conditions(alloc, tables, binders, parts.as_slice())?;
-            Ok(Cond::And { parts })
-        }
-        RawCond::Or { parts, .. } => {
-            let parts = conditions(alloc, tables, binders, parts.as_slice())?;
-            Ok(Cond::Or { parts })
-        }
+        RawCond::Not { part, .. } => negation(alloc, tables, binders, part.get()),
+        RawCond::And { parts, .. } => conjunction(alloc, tables, binders, parts.as_slice()),
+        RawCond::Or { parts, .. } => disjunction(alloc, tables, binders, parts.as_slice()),
         RawCond::Imply { left, right, .. } => {
-            let left = boxed(alloc, tables, binders, left.get())?;
-            let right = boxed(alloc, tables, binders, right.get());
-            implication(left, right)
+            implication(alloc, tables, binders, left.get(), right.get())
         }
         RawCond::All {
             variables,
             part,
             ..
-        } => {
-            let types = types(alloc, tables, variables.as_slice())?;
-            let part = inner(alloc, tables, binders, variables.as_slice(), part.get())?;
-            Ok(Cond::All {
-                variables: types,
-                part,
-            })
-        }
+        } => universal(alloc, tables, binders, variables.as_slice(), part.get()),
         RawCond::Any {
             variables,
             part,
             ..
-        } => {
-            let types = types(alloc, tables, variables.as_slice())?;
-            let part = inner(alloc, tables, binders, variables.as_slice(), part.get())?;
-            Ok(Cond::Any {
-                variables: types,
-                part,
-            })
-        }
+        } => existential(alloc, tables, binders, variables.as_slice(), part.get()),
     }
+}
+
+#[cycle(condition)]
+fn negation(
+    alloc: Global,
+    tables: &Tables,
+    binders: &[Text],
+    raw: &RawCond,
+) -> Result<Cond, Refusal>
+    requires few { AreFew (declared_of tables.now) }
+    requires room { length binders.now ≤ 64 }
+    ensures { Gives result (spec.one cond.Not (spec.cond_of (declared_of tables.now) raw.now binders.now)) }
+{
+    let part = boxed(alloc, tables, binders, raw)?;
+    Ok(Cond::Not { part })
+}
+
+#[cycle(condition)]
+fn conjunction(
+    alloc: Global,
+    tables: &Tables,
+    binders: &[Text],
+    raws: &[RawCond],
+) -> Result<Cond, Refusal>
+    requires few { AreFew (declared_of tables.now) }
+    requires room { length binders.now ≤ 64 }
+    ensures { Gives result (spec.one cond.And (spec.conds_of (declared_of tables.now) raws.now binders.now)) }
+{
+    let parts = conditions(alloc, tables, binders, raws)?;
+    Ok(Cond::And { parts })
+}
+
+#[cycle(condition)]
+fn disjunction(
+    alloc: Global,
+    tables: &Tables,
+    binders: &[Text],
+    raws: &[RawCond],
+) -> Result<Cond, Refusal>
+    requires few { AreFew (declared_of tables.now) }
+    requires room { length binders.now ≤ 64 }
+    ensures { Gives result (spec.one cond.Or (spec.conds_of (declared_of tables.now) raws.now binders.now)) }
+{
+    let parts = conditions(alloc, tables, binders, raws)?;
+    Ok(Cond::Or { parts })
+}
+
+#[tactic(auto, using(crate::proofs::Made::made_gives))]
+#[cycle(condition)]
+fn implication(
+    alloc: Global,
+    tables: &Tables,
+    binders: &[Text],
+    left: &RawCond,
+    right: &RawCond,
+) -> Result<Cond, Refusal>
+    requires few { AreFew (declared_of tables.now) }
+    requires room { length binders.now ≤ 64 }
+    ensures { Gives result (spec.both cond.Imply (spec.cond_of (declared_of tables.now) left.now binders.now) (spec.cond_of (declared_of tables.now) right.now binders.now)) }
+{
+    let left = boxed(alloc, tables, binders, left)?;
+    let right = boxed(alloc, tables, binders, right);
+    implied(left, right)
+}
+
+/// The implication of a part and another one, if that was read.
+fn implied(left: Boxed<Cond>, right: Result<Boxed<Cond>, Refusal>) -> Result<Cond, Refusal>
+    ensures { result ≡ made (cond.Imply left) right }
+{
+    match right {
+        Ok(right) => Ok(Cond::Imply { left, right }),
+        Err(refusal) => Err(refusal),
+    }
+}
+
+/// A condition for each object of a list of variables.
+#[cycle(condition)]
+fn universal(
+    alloc: Global,
+    tables: &Tables,
+    binders: &[Text],
+    variables: &[Typed],
+    raw: &RawCond,
+) -> Result<Cond, Refusal>
+    requires few { AreFew (declared_of tables.now) }
+    requires room { length binders.now ≤ 64 }
+    ensures { Gives result (spec.quantified (declared_of tables.now) cond.All variables.now (spec.cond_of (declared_of tables.now) raw.now) binders.now) }
+{
+    let types = types(alloc, tables, variables)?;
+    let part = inner(alloc, tables, binders, variables, raw)?;
+    Ok(Cond::All {
+        variables: types,
+        part,
+    })
+}
+
+/// A condition for some object of a list of variables.
+#[cycle(condition)]
+fn existential(
+    alloc: Global,
+    tables: &Tables,
+    binders: &[Text],
+    variables: &[Typed],
+    raw: &RawCond,
+) -> Result<Cond, Refusal>
+    requires few { AreFew (declared_of tables.now) }
+    requires room { length binders.now ≤ 64 }
+    ensures { Gives result (spec.quantified (declared_of tables.now) cond.Any variables.now (spec.cond_of (declared_of tables.now) raw.now) binders.now) }
+{
+    let types = types(alloc, tables, variables)?;
+    let part = inner(alloc, tables, binders, variables, raw)?;
+    Ok(Cond::Any {
+        variables: types,
+        part,
+    })
 }
 
 /// A condition as a part of another one.

@@ -11,7 +11,7 @@ use super::expressions::expression;
 use super::leaves::{function, predicate, terms};
 use crate::refusal::Refusal;
 use crate::tables::Tables;
-use mf_model::{Cond, Effect, Op, RawEffect, RawExpr, Text, Typed, Word};
+use mf_model::{Cond, Effect, List, Op, RawCond, RawEffect, RawExpr, Text, Typed, Word};
 use sqlite_items::{Boxed, Items};
 use std::alloc::Global;
 
@@ -56,7 +56,7 @@ fn change(
     binders: &[Text],
     op: Op,
     word: &Word,
-    words: &[Word],
+    words: &List<Word>,
     value: &RawExpr,
 ) -> Result<Effect, Refusal>
     requires few { AreFew (declared_of tables.now) }
@@ -64,7 +64,7 @@ fn change(
     ensures { Gives result (spec.change (declared_of tables.now) op word.now words.now value.now binders.now) }
 {
     let function = function(tables, word, words.len())?;
-    let terms = terms(alloc, tables, binders, words)?;
+    let terms = terms(alloc, tables, binders, words.as_slice())?;
     let value = expression(alloc, tables, binders, value)?;
     Ok(Effect::Change {
         op,
@@ -85,7 +85,6 @@ fn conditional(condition: Cond, part: Result<Boxed<Effect>, Refusal>) -> Result<
 }
 
 /// An effect over numbers.
-#[tactic(auto, using(crate::proofs::Made::made_gives))]
 #[cycle(effect)]
 pub(crate) fn effect(
     alloc: Global,
@@ -114,41 +113,74 @@ pub(crate) fn effect(
             terms,
             value,
             ..
-        } => change(
-            alloc,
-            tables,
-            binders,
-            *op,
-            function,
-            terms.as_slice(),
-            value,
-        ),
-        RawEffect::Group { parts, .. } => {
-            let parts = effects(alloc, tables, binders, parts.as_slice())?;
-            Ok(Effect::Group { parts })
-        }
+        } => change(alloc, tables, binders, *op, function, terms, value),
+        RawEffect::Group { parts, .. } => group(alloc, tables, binders, parts.as_slice()),
         RawEffect::Each {
             variables,
             part,
             ..
-        } => {
-            let types = types(alloc, tables, variables.as_slice())?;
-            let part = inner(alloc, tables, binders, variables.as_slice(), part.get())?;
-            Ok(Effect::Each {
-                variables: types,
-                part,
-            })
-        }
+        } => each(alloc, tables, binders, variables.as_slice(), part.get()),
         RawEffect::When {
-            condition: raw,
+            condition,
             part,
             ..
-        } => {
-            let condition = condition(alloc, tables, binders, raw)?;
-            let part = boxed(alloc, tables, binders, part.get());
-            conditional(condition, part)
-        }
+        } => when(alloc, tables, binders, condition, part.get()),
     }
+}
+
+#[cycle(effect)]
+fn group(
+    alloc: Global,
+    tables: &Tables,
+    binders: &[Text],
+    raws: &[RawEffect],
+) -> Result<Effect, Refusal>
+    requires few { AreFew (declared_of tables.now) }
+    requires room { length binders.now ≤ 64 }
+    ensures { Gives result (spec.one effect.Group (spec.effects_of (declared_of tables.now) raws.now binders.now)) }
+{
+    let parts = effects(alloc, tables, binders, raws)?;
+    Ok(Effect::Group { parts })
+}
+
+/// An effect for each object of a list of variables.
+#[cycle(effect)]
+fn each(
+    alloc: Global,
+    tables: &Tables,
+    binders: &[Text],
+    variables: &[Typed],
+    raw: &RawEffect,
+) -> Result<Effect, Refusal>
+    requires few { AreFew (declared_of tables.now) }
+    requires room { length binders.now ≤ 64 }
+    ensures { Gives result (spec.quantified (declared_of tables.now) effect.Each variables.now (spec.effect_of (declared_of tables.now) raw.now) binders.now) }
+{
+    let types = types(alloc, tables, variables)?;
+    let part = inner(alloc, tables, binders, variables, raw)?;
+    Ok(Effect::Each {
+        variables: types,
+        part,
+    })
+}
+
+/// An effect under a condition.
+#[tactic(auto, using(crate::proofs::Made::made_gives))]
+#[cycle(effect)]
+fn when(
+    alloc: Global,
+    tables: &Tables,
+    binders: &[Text],
+    guard: &RawCond,
+    raw: &RawEffect,
+) -> Result<Effect, Refusal>
+    requires few { AreFew (declared_of tables.now) }
+    requires room { length binders.now ≤ 64 }
+    ensures { Gives result (spec.both effect.When (spec.cond_of (declared_of tables.now) guard.now binders.now) (spec.effect_of (declared_of tables.now) raw.now binders.now)) }
+{
+    let condition = condition(alloc, tables, binders, guard)?;
+    let part = boxed(alloc, tables, binders, raw);
+    conditional(condition, part)
 }
 
 /// An effect as a part of another one.
