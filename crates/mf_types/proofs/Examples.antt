@@ -7,7 +7,8 @@ use Rattle.mf_model.specs.declared.form.Typed.{Typed}
 use Rattle.mf_model.specs.declared.form.Word.{Word}
 use Rattle.mf_types.specs.declared.least.FaultKind.TheVariants.{Twice, TypeCycle}
 use Rattle.mf_types.specs.Cycles.{cycles_from}
-use Rattle.mf_types.specs.Declarations.{at_word, item_words, repeats}
+use Rattle.mf_types.specs.Declarations.{item_words, repeats}
+use Rattle.mf_types.specs.Faults.{at_word}
 use Rattle.mf_types.specs.Names.{Declared, kept_types, parents_of, type_names}
 use Rattle.mf_types.specs.Related.{are_related}
 use Rattle.mf_types.specs.StartValues.{differs_at, first_of, same_number}

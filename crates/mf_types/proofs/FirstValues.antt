@@ -4,10 +4,12 @@ use Rattle.std.specs.Cmp.Lexicographic.{pointwise}
 use Rattle.std.specs.List.{list_any, position_or_len, slice_get}
 use Rattle.std.specs.Str.{bytes_eq}
 use Rattle.std.proofs.lemmas.List.{drop_more}
+use Rattle.mf_model.specs.declared.form.FileKind.TheVariants.{ProblemFile}
 use Rattle.mf_model.specs.declared.form.RawValue.{RawValue}
 use Rattle.mf_types.specs.declared.least.Fault.{Fault}
+use Rattle.mf_types.specs.Expressions.{wide_at}
 use Rattle.mf_types.specs.Faults.{after}
-use Rattle.mf_types.specs.StartValues.{differs_at, first_of, same_term, term_names, value_faults_behind, wide_at, with_value}
+use Rattle.mf_types.specs.StartValues.{differs_at, first_of, same_term, term_names, value_faults_behind, with_value}
 use Rattle.mf_types.proofs.After.{after_append}
 
 abbrev is_of : List (List ℕ) → List (List ℕ) → Bool
@@ -75,12 +77,12 @@ kept_old firsts v there = sym (ap (λ (b : Bool). if b then firsts else firsts +
 
 -- one more start value
 pub values_more : (values : List RawValue) (i : ℕ) (v : RawValue) (firsts next : List RawValue) (best second third total : Option Fault)
-    → i < length values → v ≡ get_or values i v → second ≡ after best (differs_at (first_of firsts v) v) → next ≡ with_value firsts v → third ≡ after second (wide_at v.value)
+    → i < length values → v ≡ get_or values i v → second ≡ after best (differs_at (first_of firsts v) v) → next ≡ with_value firsts v → third ≡ after second (wide_at ProblemFile v.value)
     → after best (value_faults_behind firsts (drop i values)) ≡ total → after third (value_faults_behind next (drop (i + 1) values)) ≡ total
 values_more values i v firsts next best second third total within is a b c so_far =
     let rest = value_faults_behind (with_value firsts v) (drop (i + 1) values) in
-    let one = differs_at (first_of firsts v) v ++ wide_at v.value in
-    let here : third ≡ after best one = c ∙ (ap (λ (f : Option Fault). after f (wide_at v.value)) a ∙ after_append best (differs_at (first_of firsts v) v) (wide_at v.value)) in
+    let one = differs_at (first_of firsts v) v ++ wide_at ProblemFile v.value in
+    let here : third ≡ after best one = c ∙ (ap (λ (f : Option Fault). after f (wide_at ProblemFile v.value)) a ∙ after_append best (differs_at (first_of firsts v) v) (wide_at ProblemFile v.value)) in
     let next_item : drop i values ≡ v ∷ drop (i + 1) values = drop_more values i v within ∙ ap (λ (x : RawValue). x ∷ drop (i + 1) values) (sym is) in
     ap (λ (f : Option Fault). after f (value_faults_behind next (drop (i + 1) values))) here
     ∙ (ap (λ (fs : List RawValue). after (after best one) (value_faults_behind fs (drop (i + 1) values))) b

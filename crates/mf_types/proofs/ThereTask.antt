@@ -2,6 +2,7 @@
 use Rattle.std.proofs.Common.{◌≡◌, ◌+◌, ◌≤◌, Bool, true, false, if◌then◌else◌, nat_le, Option, Some, None, List, [], ◌∷◌, ◌++◌, length, option_to_list, subst, sym, ap, ◌∙◌, arith}
 use Rattle.std.specs.List.{flat_map}
 use Rattle.mf_fraction.specs.Decimal.{read_of}
+use Rattle.mf_model.specs.declared.form.FileKind.TheVariants.{ProblemFile}
 use Rattle.mf_model.specs.declared.form.Typed.{Typed}
 use Rattle.mf_model.specs.declared.form.RawCond.{RawCond}
 use Rattle.mf_model.specs.declared.form.RawCond.TheOpen.{RawCond-F}
@@ -19,15 +20,16 @@ use Rattle.mf_types.specs.AllFaults.{faults_of}
 use Rattle.mf_types.specs.Conditions as faults
 use Rattle.mf_types.specs.Conditions.{cond_faults}
 use Rattle.mf_types.specs.DeclarationFaults.{declaration_faults_in}
-use Rattle.mf_types.specs.Expressions.{is_wide}
+use Rattle.mf_types.specs.Expressions.{is_wide, wide_at}
 use Rattle.mf_types.specs.Names.{Declared, declared_by, firsts}
 use Rattle.mf_types.specs.Declarations.{beyond, item_words}
 use Rattle.mf_types.specs.Scopes.{Scope, variables_of}
 use Rattle.mf_types.specs.Sites.{Site}
-use Rattle.mf_types.specs.StartValues.{differs_at, first_of, with_value, wide_at, value_faults_behind, value_faults}
+use Rattle.mf_types.specs.StartValues.{differs_at, first_of, with_value, value_faults_behind, value_faults}
 use Rattle.mf_types.specs.Tasks.{action_of, objects_of, atom_of, fact_layer, fact_of, facts_of, value_of, values_of, term_key, metric_by, metric_of, are_few, task_for, task_of}
 use Rattle.mf_types.specs.Typing.{Binders, inside, function_of, number_in, expr_of, cond_of, effect_of, predicate_of}
 use Rattle.mf_types.specs.Uses.{in_domain, in_problem, in_metric, action_use_faults, action_faults, closed_faults, value_term_faults, start_faults, metric_faults, uses_in}
+use Rattle.mf_types.proofs.Faultless.{faultless_lists}
 use Rattle.mf_types.proofs.There.{IsThere, then_there, made_there, cons_there, first_empty, second_empty, not_met, each_there}
 use Rattle.mf_types.proofs.ThereTerms.{objects_there}
 use Rattle.mf_types.proofs.ThereExpressions.{expr_there, number_there, function_there}
@@ -95,7 +97,7 @@ facts_there site (raw ∷ raws) e =
     (fact_there site raw (first_empty (closed_faults site raw) _ e))
     (facts_there site raws (second_empty (closed_faults site raw) _ e))
 
-value_there : (site : Site) (raw : RawValue) → value_term_faults site raw ≡ [] → wide_at raw.value ≡ [] → IsThere (value_of site.declared raw)
+value_there : (site : Site) (raw : RawValue) → value_term_faults site raw ≡ [] → wide_at ProblemFile raw.value ≡ [] → IsThere (value_of site.declared raw)
 unfolding value_of
 value_there site raw e narrow =
     let terms = second_empty _ _ e in
@@ -106,7 +108,7 @@ value_there site raw e narrow =
 each_value : (site : Site) (seen raws : List RawValue) → flat_map (value_term_faults site) raws ≡ [] → value_faults_behind seen raws ≡ [] → IsThere (each (value_of site.declared) raws)
 each_value site seen [] e h = tt
 each_value site seen (raw ∷ raws) e h =
-    let own = differs_at (first_of seen raw) raw ++ wide_at raw.value in
+    let own = differs_at (first_of seen raw) raw ++ wide_at ProblemFile raw.value in
     cons_there (value_of site.declared raw) (each (value_of site.declared) raws)
     (value_there site raw (first_empty (value_term_faults site raw) _ e) (second_empty (differs_at (first_of seen raw) raw) _ (first_empty own _ h)))
     (each_value site (with_value seen raw) raws (second_empty (value_term_faults site raw) _ e) (second_empty own _ h))
@@ -148,5 +150,5 @@ task_there d p e =
     let declared = declared_by d p in
     let declarations = declaration_faults_in declared d p in
     let declared_empty = first_empty declarations _ e in
-    let values_empty = second_empty _ (value_faults p.values) declared_empty in
-    within_limits (are_few declared d) (task_for declared d p) (few_declared d p declared_empty) (parts_there declared d p (second_empty declarations _ e) values_empty)
+    let lists = faultless_lists declared d p declared_empty in
+    within_limits (are_few declared d) (task_for declared d p) (few_declared d p declared_empty) (parts_there declared d p (second_empty declarations _ e) lists.values)

@@ -5,10 +5,11 @@ use Rattle.mf_model.specs.Resolution.{number_of}
 use Rattle.mf_model.specs.declared.form.Word.{Word}
 use Rattle.mf_types.specs.declared.least.Fault.{Fault}
 use Rattle.mf_types.specs.declared.least.FaultKind.TheVariants.{UnknownName, WrongCount, WrongType}
+use Rattle.mf_types.specs.Faults.{at_word}
 use Rattle.mf_types.specs.Names.{Declared}
 use Rattle.mf_types.specs.Related.{are_related}
 use Rattle.mf_types.specs.Scopes.{Scope, Placed, find_in}
-use Rattle.mf_types.specs.Sites.{Site, faulty, unless}
+use Rattle.mf_types.specs.Sites.{Site, unless}
 
 -- What names stand for
 
@@ -44,14 +45,14 @@ function_parameters declared name = entry declared.function_types (number_of dec
 
 abbrev pub unknown : {A : Type 0} → Site → Word → Option A → List Fault
 unknown site w (Some thing) = []
-unknown site w None = faulty site UnknownName w
+unknown site w None = at_word UnknownName site.file w
 
 abbrev pub term_faults : Site → Scope → Word → List Fault
 term_faults site scope w = unknown site w (term_types site.declared scope w.text)
 
 -- what isn't declared has no types to compare
 abbrev pub type_faults : Site → List ℕ → Word → Option (List ℕ) → List Fault
-type_faults site wanted w (Some own) = unless (are_related site.declared.parents own wanted) (faulty site WrongType w)
+type_faults site wanted w (Some own) = unless (are_related site.declared.parents own wanted) (at_word WrongType site.file w)
 type_faults site wanted w None = []
 
 -- each argument with the types of its parameter; where one is missing, nothing is compared
@@ -63,11 +64,11 @@ argument_faults site scope (w ∷ ws) (wanted ∷ others) = type_faults site wan
 -- Predicates and functions with their arguments
 
 abbrev pub count_faults : Site → Word → List Word → List (List ℕ) → List Fault
-count_faults site name terms parameters = unless (nat_eq (length parameters) (length terms)) (faulty site WrongCount name)
+count_faults site name terms parameters = unless (nat_eq (length parameters) (length terms)) (at_word WrongCount site.file name)
 
 abbrev pub symbol_faults : Site → Scope → Word → List Word → Option (List (List ℕ)) → List Fault
 symbol_faults site scope name terms (Some parameters) = count_faults site name terms parameters ++ argument_faults site scope terms parameters
-symbol_faults site scope name terms None = faulty site UnknownName name
+symbol_faults site scope name terms None = at_word UnknownName site.file name
 
 abbrev pub applied_faults : Site → Scope → Word → List Word → Option (List (List ℕ)) → List Fault
 applied_faults site scope name terms parameters =

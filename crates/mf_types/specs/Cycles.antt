@@ -7,7 +7,7 @@ use Rattle.mf_model.specs.declared.form.Typed.{Typed}
 use Rattle.mf_model.specs.declared.form.Word.{Word}
 use Rattle.mf_types.specs.declared.least.Fault.{Fault}
 use Rattle.mf_types.specs.declared.least.FaultKind.TheVariants.{TypeCycle}
-use Rattle.mf_types.specs.Declarations.{at_word}
+use Rattle.mf_types.specs.Faults.{at_word}
 use Rattle.mf_types.specs.Names.{Declared, kept_types}
 
 -- `object` stands at the top, unless it has a parent of its own

@@ -10,7 +10,7 @@ use Rattle.mf_model.specs.declared.form.Typed.{Typed}
 use Rattle.mf_types.specs.declared.least.Fault.{Fault}
 use Rattle.mf_types.specs.Cycles.{cycle_faults}
 use Rattle.mf_types.specs.Declarations.{action_words, beyond, header_words, item_words, list_faults, most_actions, most_parameters, most_symbols, object_list_faults, repeats}
-use Rattle.mf_types.specs.Names.{Declared, declared_by, kept_types, type_firsts}
+use Rattle.mf_types.specs.Names.{Declared, kept_types, type_firsts}
 use Rattle.mf_types.specs.Quantified.{item_faults}
 use Rattle.mf_types.specs.Sites.{Site}
 use Rattle.mf_types.specs.StartValues.{value_faults}
@@ -51,6 +51,3 @@ declaration_faults_in declared d p =
     ++ header_list_faults (in_domain declared) d.functions
     ++ action_list_faults (in_domain declared) d.actions
     ++ value_faults p.values
-
-abbrev pub declaration_faults : Domain → Problem → List Fault
-declaration_faults d p = declaration_faults_in (declared_by d p) d p

@@ -7,9 +7,8 @@ use Rattle.mf_model.specs.declared.form.RawAction.{RawAction}
 use Rattle.mf_model.specs.declared.form.Typed.{Typed}
 use Rattle.mf_model.specs.declared.form.Word.{Word}
 use Rattle.mf_types.specs.declared.least.Fault.{Fault}
-use Rattle.mf_types.specs.declared.least.FaultKind.{FaultKind}
 use Rattle.mf_types.specs.declared.least.FaultKind.TheVariants.{Twice, TooMany}
-use Rattle.mf_types.specs.Faults.{fault_at}
+use Rattle.mf_types.specs.Faults.{at_word}
 use Rattle.mf_types.specs.Names.{is_member, text_of}
 use Rattle.mf_types.specs.Tables.{entered, with_name}
 
@@ -25,9 +24,6 @@ abbrev pub action_words : List RawAction → List Word
 action_words = map (λ (a : RawAction). a.word)
 
 -- Twice
-
-abbrev pub at_word : FaultKind → FileKind → Word → List Fault
-at_word kind file w = fault_at kind file w.span ∷ []
 
 abbrev pub repeated_at : FileKind → List (List ℕ) → Word → List Fault
 repeated_at file names w = if is_member names w.text then at_word Twice file w else []

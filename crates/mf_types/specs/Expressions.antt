@@ -6,17 +6,18 @@ use Rattle.mf_fraction.specs.Decimal.{read_of}
 use Rattle.mf_fraction.specs.declared.faults.NumberFault.{NumberFault}
 use Rattle.mf_fraction.specs.declared.faults.NumberFault.TheVariants.{NotANumber, Wide}
 use Rattle.mf_model.specs.declared.token.Span.{Span}
+use Rattle.mf_model.specs.declared.form.FileKind.{FileKind}
 use Rattle.mf_model.specs.declared.form.Word.{Word}
 use Rattle.mf_model.specs.declared.form.RawExpr.{RawExpr, fold-RawExpr}
 use Rattle.mf_model.specs.declared.form.RawExpr.TheOpen.{RawExpr-F}
 use Rattle.mf_types.specs.declared.expressions.Examined.{Examined}
 use Rattle.mf_types.specs.declared.least.Fault.{Fault}
 use Rattle.mf_types.specs.declared.least.FaultKind.TheVariants.{WrongCount, WideNumber, NotLinear}
-use Rattle.mf_types.specs.Faults.{after, fault_at}
+use Rattle.mf_types.specs.Faults.{after, at_span, at_word}
 use Rattle.mf_types.specs.Names.{is_member}
 use Rattle.mf_types.specs.Scopes.{Scope}
 use Rattle.mf_types.specs.Arguments.{function_parameters, function_faults}
-use Rattle.mf_types.specs.Sites.{Site, faulty, unless}
+use Rattle.mf_types.specs.Sites.{Site, unless}
 
 -- what is seen of an expression
 pub record Seen : Type 0 where
@@ -30,8 +31,8 @@ is_wide (Ok number) = false
 is_wide (Err NotANumber) = false
 is_wide (Err Wide) = true
 
-abbrev pub number_faults : Site → Word → List Fault
-number_faults site w = if is_wide (read_of w.text) then faulty site WideNumber w else []
+abbrev pub wide_at : FileKind → Word → List Fault
+wide_at file w = if is_wide (read_of w.text) then at_word WideNumber file w else []
 
 -- The number of steps
 
@@ -41,7 +42,7 @@ total_time = codes "total-time"
 -- `total-time` is a function of that name where there is one
 abbrev pub steps_faults : Site → Span → Option (List (List ℕ)) → List Fault
 steps_faults site span (Some []) = []
-steps_faults site span (Some (parameter ∷ parameters)) = fault_at WrongCount site.file span ∷ []
+steps_faults site span (Some (parameter ∷ parameters)) = at_span WrongCount site.file span
 steps_faults site span None = []
 
 abbrev pub total_time_faults : Site → Span → List Fault
@@ -64,7 +65,7 @@ changing (part ∷ parts) = changes part.constant + changing parts
 -- Expressions
 
 abbrev pub linear_faults : Site → Span → Bool → List Fault
-linear_faults site span is_linear = if site.linear then unless is_linear (fault_at NotLinear site.file span ∷ []) else []
+linear_faults site span is_linear = if site.linear then unless is_linear (at_span NotLinear site.file span) else []
 
 abbrev pub sum : List Seen → Seen
 sum parts = record { constant = nat_eq (changing parts) 0; faults = part_faults parts }
@@ -90,7 +91,7 @@ quotient site span left right = record {
 }
 
 abbrev pub expr_step : Site → RawExpr-F Seen → Seen
-expr_step site (RawExpr-F.Number word span) = record { constant = true; faults = λ scope. number_faults site word }
+expr_step site (RawExpr-F.Number word span) = record { constant = true; faults = λ scope. wide_at site.file word }
 expr_step site (RawExpr-F.Function function terms span) = record {
   constant = not (is_member site.declared.changed function.text);
   faults = λ scope. function_faults site scope function terms;

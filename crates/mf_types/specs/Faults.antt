@@ -4,6 +4,7 @@ use Rattle.std.specs.Prelude.{◌≡◌, ℕ, Bool, true, if◌then◌else◌, n
 use Rattle.mf_model.specs.declared.token.Span.{Span}
 use Rattle.mf_model.specs.declared.form.FileKind.{FileKind}
 use Rattle.mf_model.specs.declared.form.FileKind.TheVariants.{DomainFile, ProblemFile}
+use Rattle.mf_model.specs.declared.form.Word.{Word}
 use Rattle.mf_types.specs.declared.least.Fault.{Fault}
 use Rattle.mf_types.specs.declared.least.FaultKind.{FaultKind}
 use Rattle.mf_types.specs.declared.least.FaultKind.TheVariants.{Twice, TypeCycle, UnknownName, WrongCount, WrongType, TooMany, WideNumber, NotLinear}
@@ -40,6 +41,13 @@ after best (fault ∷ faults) = after (least best fault) faults
 
 abbrev pub fault_at : FaultKind → FileKind → Span → Fault
 fault_at kind file span = record { kind = kind; file = file; span = span }
+
+-- one fault alone, at a span or at a word
+abbrev pub at_span : FaultKind → FileKind → Span → List Fault
+at_span kind file span = fault_at kind file span ∷ []
+
+abbrev pub at_word : FaultKind → FileKind → Word → List Fault
+at_word kind file w = at_span kind file w.span
 
 -- the fault that is answered, of all that stand
 abbrev pub IsLeast : List Fault → Fault → Type 0

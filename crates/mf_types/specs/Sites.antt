@@ -1,11 +1,8 @@
 -- Where names are used.
-use Rattle.std.specs.Prelude.{Bool, if◌then◌else◌, List, [], ◌∷◌}
+use Rattle.std.specs.Prelude.{Bool, if◌then◌else◌, List, []}
 use Rattle.mf_model.specs.declared.form.FileKind.{FileKind}
-use Rattle.mf_model.specs.declared.form.Word.{Word}
 use Rattle.mf_types.specs.declared.least.Fault.{Fault}
-use Rattle.mf_types.specs.declared.least.FaultKind.{FaultKind}
 use Rattle.mf_types.specs.declared.site.Site as code
-use Rattle.mf_types.specs.Faults.{fault_at}
 use Rattle.mf_types.specs.Names.{Declared}
 use Rattle.mf_types.specs.Tables.{declared_of}
 
@@ -18,10 +15,6 @@ pub record Site : Type 0 where
 -- what contracts see of a site
 abbrev pub site_of : code.Site → Site
 site_of site = record { declared = declared_of site.tables.now; file = site.file; linear = site.linear }
-
--- a fault at a word
-abbrev pub faulty : Site → FaultKind → Word → List Fault
-faulty site kind w = fault_at kind site.file w.span ∷ []
 
 abbrev pub unless : Bool → List Fault → List Fault
 unless holds faults = if holds then [] else faults

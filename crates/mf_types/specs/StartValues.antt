@@ -1,17 +1,16 @@
 -- Faults of start values: a term with a second value that differs from its first, and numbers that don't fit.
 use Rattle.std.specs.Prelude.{ℕ, Bool, true, false, if◌then◌else◌, ◌&&◌, not, ◌==◌, Option, Some, None, is_some, List, [], ◌∷◌, ◌++◌, map}
-use Rattle.std.specs.Borrow.{Bor}
 use Rattle.std.specs.List.{before_first, after_first}
 use Rattle.std.specs.Str.{bytes_eq}
 use Rattle.std.specs.Cmp.Lexicographic.{pointwise}
-use Rattle.mf_fraction.specs.Decimal.{has_minus, without_minus, is_point, read_of}
+use Rattle.mf_fraction.specs.Decimal.{has_minus, without_minus, is_point}
 use Rattle.mf_model.specs.declared.form.FileKind.TheVariants.{ProblemFile}
 use Rattle.mf_model.specs.declared.form.RawValue.{RawValue}
 use Rattle.mf_model.specs.declared.form.Word.{Word}
 use Rattle.mf_types.specs.declared.least.Fault.{Fault}
-use Rattle.mf_types.specs.declared.least.FaultKind.TheVariants.{Twice, WideNumber}
-use Rattle.mf_types.specs.Declarations.{at_word}
-use Rattle.mf_types.specs.Expressions.{is_wide}
+use Rattle.mf_types.specs.declared.least.FaultKind.TheVariants.{Twice}
+use Rattle.mf_types.specs.Faults.{at_word}
+use Rattle.mf_types.specs.Expressions.{wide_at}
 use Rattle.mf_types.specs.Names.{text_of}
 
 -- Decimals of any length: 48 is `0`
@@ -66,23 +65,16 @@ first_of (other ∷ others) v = if same_term v other then Some other else first_
 abbrev pub with_value : List RawValue → RawValue → List RawValue
 with_value firsts v = if is_some (first_of firsts v) then firsts else firsts ++ v ∷ []
 
--- what a list of references points to
-abbrev pub pointed : List (Bor RawValue) → List RawValue
-pointed values = map (λ (value : Bor RawValue). value.now) values
-
 -- Faults
 
 abbrev pub differs_at : Option RawValue → RawValue → List Fault
 differs_at None v = []
 differs_at (Some first) v = if same_number first.value.text v.value.text then [] else at_word Twice ProblemFile v.value
 
-abbrev pub wide_at : Word → List Fault
-wide_at w = if is_wide (read_of w.text) then at_word WideNumber ProblemFile w else []
-
 -- where these are the first start values of each term before
 abbrev pub value_faults_behind : List RawValue → List RawValue → List Fault
 value_faults_behind firsts [] = []
-value_faults_behind firsts (v ∷ vs) = (differs_at (first_of firsts v) v ++ wide_at v.value) ++ value_faults_behind (with_value firsts v) vs
+value_faults_behind firsts (v ∷ vs) = (differs_at (first_of firsts v) v ++ wide_at ProblemFile v.value) ++ value_faults_behind (with_value firsts v) vs
 
 abbrev pub value_faults : List RawValue → List Fault
 value_faults values = value_faults_behind [] values

@@ -1,7 +1,6 @@
 -- What contracts see of the tables of names, and how a table grows.
 use Rattle.std.specs.Prelude.{ℕ, if◌then◌else◌, Option, Some, None, List, [], ◌∷◌, ◌++◌, map, slice_index_or}
 use Rattle.std.specs.Borrow.{Bor}
-use Rattle.mf_model.specs.declared.form.Word.{Word}
 use Rattle.mf_model.specs.Resolution.{number_of}
 use Rattle.mf_types.specs.declared.tables.Tables.{Tables}
 use Rattle.mf_types.specs.Names.{Declared, head_or_zero, is_member}
@@ -37,5 +36,5 @@ abbrev pub parent_by : List (List ℕ) → List (List ℕ) → List ℕ → ℕ
 parent_by own types name = first_at types (number_of own name)
 
 -- what a list of references points to
-abbrev pub pointed : List (Bor Word) → List Word
-pointed words = map (λ (word : Bor Word). word.now) words
+abbrev pub pointed : {A : Type 0} → List (Bor A) → List A
+pointed {A = A} references = map (λ (reference : Bor A). reference.now) references

@@ -9,7 +9,7 @@ use Rattle.mf_model.specs.declared.form.RawCond.{RawCond}
 use Rattle.mf_model.specs.declared.form.RawMetric.{RawMetric}
 use Rattle.mf_model.specs.declared.form.RawValue.{RawValue}
 use Rattle.mf_types.specs.declared.least.Fault.{Fault}
-use Rattle.mf_types.specs.Names.{Declared, declared_by}
+use Rattle.mf_types.specs.Names.{Declared}
 use Rattle.mf_types.specs.Scopes.{variables_of}
 use Rattle.mf_types.specs.Arguments.{function_faults}
 use Rattle.mf_types.specs.Sites.{Site}
@@ -63,6 +63,3 @@ abbrev pub uses_in : Declared → Domain → Problem → List Fault
 uses_in declared d p =
     ((action_faults declared d.actions ++ start_faults (in_problem declared) p.atoms p.values) ++ closed_faults (in_problem declared) p.goal)
     ++ metric_faults declared p.metric
-
-abbrev pub use_faults : Domain → Problem → List Fault
-use_faults d p = uses_in (declared_by d p) d p

@@ -6,9 +6,9 @@ ghost use Rattle.mf_types.specs.Faults.{after};
 ghost use Rattle.mf_types.specs.Sites.{site_of};
 ghost use Rattle.mf_types.specs.Tables.{declared_of};
 
-use crate::least::{Fault, FaultKind};
+use crate::least::{Fault, FaultKind, at_word};
 use crate::scope::{Variable, types_of_variable};
-use crate::site::{Site, at_word};
+use crate::site::Site;
 use crate::tables::Tables;
 use mf_model::{List, Word};
 
@@ -51,7 +51,7 @@ pub(crate) fn term(
 {
     match types_of_term(site.tables, scope, word.text.as_slice()) {
         Some(_) => best,
-        None => at_word(site, best, FaultKind::UnknownName, word),
+        None => at_word(best, FaultKind::UnknownName, site.file, word),
     }
 }
 
@@ -85,7 +85,7 @@ fn argument(
 {
     match types_of_term(site.tables, scope, word.text.as_slice()) {
         Some(own) if !site.tables.are_related(own, wanted) => {
-            at_word(site, best, FaultKind::WrongType, word)
+            at_word(best, FaultKind::WrongType, site.file, word)
         }
         _ => best,
     }
@@ -128,7 +128,7 @@ fn symbol(
         (option_copied parameters.entry)) }
 {
     let Some(parameters) = parameters else {
-        return at_word(site, best, FaultKind::UnknownName, name);
+        return at_word(best, FaultKind::UnknownName, site.file, name);
     };
     let best = count(site, best, parameters, name, words);
     arguments(site, best, scope, parameters, words)
@@ -148,7 +148,7 @@ fn count(
     if parameters.len() == words.len() {
         return best;
     }
-    at_word(site, best, FaultKind::WrongCount, name)
+    at_word(best, FaultKind::WrongCount, site.file, name)
 }
 
 /// The faults of an atom.

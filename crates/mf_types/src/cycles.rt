@@ -7,8 +7,7 @@ ghost use Rattle.mf_types.specs.Names as names;
 ghost use Rattle.mf_types.specs.Tables.{declared_of};
 
 use crate::kept::says_nothing;
-use crate::least::{Fault, FaultKind};
-use crate::listing::at_word;
+use crate::least::{Fault, FaultKind, at_word};
 use crate::tables::{Tables, parent_of};
 use indexmap::IndexSet;
 use mf_model::{FileKind, Typed};

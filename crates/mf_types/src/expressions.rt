@@ -4,11 +4,11 @@ ghost use Rattle.mf_types.specs.Faults.{after};
 ghost use Rattle.mf_types.specs.Sites.{site_of};
 
 use crate::arguments::{function, parameters_of_function};
-use crate::least::{Fault, FaultKind};
+use crate::least::{Fault, FaultKind, at_span, at_word};
 use crate::scope::Variable;
-use crate::site::{Site, at_span, at_word};
+use crate::site::Site;
 use mf_fraction::{NumberFault, read_decimal};
-use mf_model::{RawExpr, Span, Word};
+use mf_model::{FileKind, RawExpr, Span, Word};
 
 /// Whether an expression reads constant functions alone, and the best fault so far.
 #[derive(Clone, Copy)]
@@ -25,11 +25,11 @@ struct Parts {
 }
 
 /// The fault of a number that doesn't fit.
-pub(crate) fn number(site: &Site<'_>, best: Option<Fault>, word: &Word) -> Option<Fault>
-    ensures { result ≡ after best (spec.number_faults (site_of site.now) word.now) }
+pub(crate) fn wide_at(best: Option<Fault>, file: FileKind, word: &Word) -> Option<Fault>
+    ensures { result ≡ after best (spec.wide_at file word.now) }
 {
     match read_decimal(word.text.as_slice()) {
-        Err(NumberFault::Wide) => at_word(site, best, FaultKind::WideNumber, word),
+        Err(NumberFault::Wide) => at_word(best, FaultKind::WideNumber, file, word),
         Err(NumberFault::NotANumber) => best,
         Ok(_) => best,
     }
@@ -41,7 +41,7 @@ fn steps(site: &Site<'_>, best: Option<Fault>, span: Span) -> Option<Fault>
 {
     match parameters_of_function(site.tables, b"total-time".as_slice()) {
         Some([]) => best,
-        Some(_) => at_span(site, best, FaultKind::WrongCount, span),
+        Some(_) => at_span(best, FaultKind::WrongCount, site.file, span),
         None => best,
     }
 }
@@ -56,7 +56,7 @@ pub(crate) fn linear(
     ensures { result ≡ after best (spec.linear_faults (site_of site.now) span is_linear) }
 {
     if site.linear && !is_linear {
-        return at_span(site, best, FaultKind::NotLinear, span);
+        return at_span(best, FaultKind::NotLinear, site.file, span);
     }
     best
 }
@@ -75,7 +75,7 @@ pub(crate) fn expression(
     match value {
         RawExpr::Number { word, .. } => Examined {
             constant: true,
-            best: number(site, best, word),
+            best: wide_at(best, site.file, word),
         },
         RawExpr::Function {
             function: name,

@@ -1,7 +1,7 @@
 ghost use Rattle.std.specs.Prelude.{◌≡◌};
 ghost use Rattle.mf_types.specs.Faults as spec;
 
-use mf_model::{FileKind, Span};
+use mf_model::{FileKind, Span, Word};
 
 /// What is wrong at a place, in the order in which faults at one place are named.
 #[derive(Clone, Copy, Debug)]
@@ -63,7 +63,7 @@ fn is_before(one: Fault, other: Fault) -> bool
 }
 
 /// The one of two faults that is named first.
-pub(crate) fn least(best: Option<Fault>, fault: Fault) -> Option<Fault>
+fn least(best: Option<Fault>, fault: Fault) -> Option<Fault>
     ensures { result ≡ spec.least best fault }
 {
     match best {
@@ -71,4 +71,28 @@ pub(crate) fn least(best: Option<Fault>, fault: Fault) -> Option<Fault>
         Some(other) if is_before(other, fault) => Some(other),
         Some(_) => Some(fault),
     }
+}
+
+/// The best fault so far or one at a word.
+pub(crate) fn at_word(
+    best: Option<Fault>,
+    kind: FaultKind,
+    file: FileKind,
+    word: &Word,
+) -> Option<Fault>
+    ensures { result ≡ spec.after best (spec.at_word kind file word.now) }
+{
+    at_span(best, kind, file, word.span)
+}
+
+/// The best fault so far or one at a span.
+pub(crate) fn at_span(
+    best: Option<Fault>,
+    kind: FaultKind,
+    file: FileKind,
+    span: Span,
+) -> Option<Fault>
+    ensures { result ≡ spec.after best (spec.at_span kind file span) }
+{
+    least(best, Fault { kind, file, span })
 }

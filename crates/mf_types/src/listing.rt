@@ -5,31 +5,12 @@ ghost use Rattle.mf_types.specs.Names.{text_of};
 ghost use Rattle.mf_types.specs.Tables.{entered, pointed};
 
 use crate::entering::enter;
-use crate::least::{Fault, FaultKind, least};
+use crate::least::{Fault, FaultKind, at_word};
 use mf_model::{FileKind, Word};
 use mf_names::Names;
 use std::alloc::{AllocError, Global};
 
 const MOST_OBJECTS: usize = 65_535;
-
-/// The best fault so far or one at a word.
-pub(crate) fn at_word(
-    best: Option<Fault>,
-    kind: FaultKind,
-    file: FileKind,
-    word: &Word,
-) -> Option<Fault>
-    ensures { result ≡ after best (spec.at_word kind file word.now) }
-{
-    least(
-        best,
-        Fault {
-            kind,
-            file,
-            span: word.span,
-        },
-    )
-}
 
 /// The faults of words of which the name stood before; their names go behind the others.
 #[tactic(auto, using(crate::proofs::After::after_append))]

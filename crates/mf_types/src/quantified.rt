@@ -4,9 +4,9 @@ ghost use Rattle.mf_types.specs.Faults.{after};
 ghost use Rattle.mf_types.specs.Quantified as spec;
 ghost use Rattle.mf_types.specs.Sites.{site_of};
 
-use crate::least::{Fault, FaultKind};
+use crate::least::{Fault, FaultKind, at_word};
 use crate::listing::{beyond_behind, repeats_alone};
-use crate::site::{Site, at_word};
+use crate::site::Site;
 use crate::words::item_words;
 use mf_model::{Typed, Word};
 use std::alloc::{AllocError, Global};
@@ -65,6 +65,6 @@ fn type_word(site: &Site<'_>, best: Option<Fault>, word: &Word) -> Option<Fault>
 {
     match site.tables.find_type(word.text.as_slice()) {
         Some(_) => best,
-        None => at_word(site, best, FaultKind::UnknownName, word),
+        None => at_word(best, FaultKind::UnknownName, site.file, word),
     }
 }

@@ -2,13 +2,13 @@ ghost use Rattle.std.specs.Prelude.{◌≡◌, map, slice_get, IfOk, OnOk};
 ghost use Rattle.std.specs.Option.{option_copied};
 ghost use Rattle.mf_types.specs.Faults.{after};
 ghost use Rattle.mf_types.specs.StartValues as spec;
+ghost use Rattle.mf_types.specs.Tables.{pointed};
 
 use crate::decimals::is_same_number;
-use crate::least::{Fault, FaultKind};
-use crate::listing::at_word;
+use crate::expressions::wide_at;
+use crate::least::{Fault, FaultKind, at_word};
 use indexmap::IndexSet;
-use mf_fraction::{NumberFault, read_decimal};
-use mf_model::{FileKind, List, RawValue, Text, Word};
+use mf_model::{FileKind, List, RawValue, Text};
 use std::alloc::{AllocError, Global};
 
 /// The faults of start values: a term with a second value that differs from its first, and
@@ -25,7 +25,7 @@ pub(crate) fn start_values(
     let mut firsts = List::new(alloc);
     for value in values {
         best = repeated_at(alloc, best, &mut terms, &mut firsts, value)?;
-        best = wide_at(best, &value.value);
+        best = wide_at(best, FileKind::ProblemFile, &value.value);
     }
     Ok(best)
 }
@@ -39,13 +39,13 @@ fn repeated_at<'a>(
     firsts: &mut List<&'a RawValue>,
     value: &'a RawValue,
 ) -> Result<Option<Fault>, AllocError>
-    requires { terms.old.keys ≡ map spec.term_names (spec.pointed firsts.old) }
+    requires { terms.old.keys ≡ map spec.term_names (pointed firsts.old) }
     ensures faults { IfOk result
         (λ fault. fault ≡ after best
-        (spec.differs_at (spec.first_of (spec.pointed firsts.old) value.now) value.now)) }
+        (spec.differs_at (spec.first_of (pointed firsts.old) value.now) value.now)) }
     ensures firsts { OnOk result
-        (spec.pointed firsts.new ≡ spec.with_value (spec.pointed firsts.old) value.now) }
-    ensures terms { OnOk result (terms.new.keys ≡ map spec.term_names (spec.pointed firsts.new)) }
+        (pointed firsts.new ≡ spec.with_value (pointed firsts.old) value.now) }
+    ensures terms { OnOk result (terms.new.keys ≡ map spec.term_names (pointed firsts.new)) }
 {
     let names = term_names(alloc, value)?;
     let (place, is_new) = terms.insert_full(names)?;
@@ -57,7 +57,7 @@ fn repeated_at<'a>(
 }
 
 fn first_at<'a>(firsts: &List<&'a RawValue>, place: usize) -> Option<&'a RawValue>
-    ensures { option_copied result ≡ slice_get (spec.pointed firsts.now) place }
+    ensures { option_copied result ≡ slice_get (pointed firsts.now) place }
 {
     firsts.get(place).copied()
 }
@@ -86,14 +86,4 @@ fn term_names(alloc: Global, value: &RawValue) -> Result<List<Text>, AllocError>
         names.push(object.text.copy(alloc)?)?;
     }
     Ok(names)
-}
-
-fn wide_at(best: Option<Fault>, word: &Word) -> Option<Fault>
-    ensures { result ≡ after best (spec.wide_at word.now) }
-{
-    match read_decimal(word.text.as_slice()) {
-        Ok(_) => best,
-        Err(NumberFault::NotANumber) => best,
-        Err(NumberFault::Wide) => at_word(best, FaultKind::WideNumber, FileKind::ProblemFile, word),
-    }
 }

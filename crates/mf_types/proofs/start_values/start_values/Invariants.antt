@@ -1,6 +1,7 @@
 use Rattle.std.proofs.Common.{◌≡◌, drop, map}
 use Rattle.mf_types.specs.Faults.{after}
-use Rattle.mf_types.specs.StartValues.{pointed, term_names, value_faults, value_faults_behind}
+use Rattle.mf_types.specs.StartValues.{term_names, value_faults, value_faults_behind}
+use Rattle.mf_types.specs.Tables.{pointed}
 use Rattle.mf_types.proofs.start_values.start_values.Given as goal
 
 abbrev pub invariant-loop-value : goal.invariant-loop-value
