@@ -1,8 +1,8 @@
-ghost use Rattle.mf_fraction.specs.Decimal.{is_digits, is_point, places, digits_value, read_parts, read_unsigned, read_of};
+ghost use Rattle.mf_fraction.specs.Decimal.{is_digits, is_number, is_point, is_unsigned_number, places, digits_value, read_parts, read_unsigned, read_of};
 ghost use Rattle.mf_fraction.specs.Within.{within, continued};
 ghost use Rattle.std.specs.Char.{is_ascii_digit};
 ghost use Rattle.std.specs.List.{list_all, position, position_or_len};
-ghost use Rattle.std.specs.Prelude.{◌≡◌, ◌≤◌, ◌+◌, ◌++◌, ◌&&◌, ◌||◌, length, drop};
+ghost use Rattle.std.specs.Prelude.{◌≡◌, ◌≤◌, ◌+◌, ◌++◌, length, drop};
 
 use crate::arithmetic::turned;
 use crate::lowest::lowest;
@@ -27,24 +27,33 @@ pub fn read_decimal(word: &[u8]) -> Result<Frac, NumberFault>
     }
 }
 
-// The same without a sign.
+/// Whether the word is an optional `-`, digits, and optionally `.` and digits.
+pub fn is_number(word: &[u8]) -> bool
+    ensures { result ≡ is_number word.now }
+{
+    match word {
+        [first, digits @ ..] if *first == b'-' => is_unsigned_number(digits),
+        _ => is_unsigned_number(word),
+    }
+}
+
+// The exact value of a word without a sign, negated where wanted.
 fn read_digits(negative: bool, digits: &[u8]) -> Result<Frac, NumberFault>
     ensures { result ≡ read_unsigned negative digits.now }
 {
-    let at = point_place(digits);
-    let front = &digits[..at];
-    let back = behind(digits, at);
-    if !is_number(digits, front, back) {
+    if !is_unsigned_number(digits) {
         return Err(NumberFault::NotANumber);
     }
-    fraction(negative, front, back)
+    let at = point_place(digits);
+    fraction(negative, &digits[..at], behind(digits, at))
 }
 
 // Digits alone, or digits on both sides of the point.
-fn is_number(digits: &[u8], front: &[u8], back: &[u8]) -> bool
-    ensures { result ≡ (is_digits digits.now || (is_digits front.now && is_digits back.now)) }
+fn is_unsigned_number(digits: &[u8]) -> bool
+    ensures { result ≡ is_unsigned_number digits.now }
 {
-    is_digits(digits) || is_digits(front) && is_digits(back)
+    let at = point_place(digits);
+    is_digits(digits) || is_digits(&digits[..at]) && is_digits(behind(digits, at))
 }
 
 // Where the point stands, or the length.

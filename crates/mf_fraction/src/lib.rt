@@ -15,7 +15,7 @@ mod order;
 mod text;
 
 pub use arithmetic::{add, div, mul, sub};
-pub use decimal::read_decimal;
+pub use decimal::{is_number, read_decimal};
 pub use faults::{DivFault, Memory, NumberFault, Wide};
 pub use fraction::Frac;
 pub use negative::neg;

@@ -10,3 +10,4 @@ pub mod OneByte
 pub mod Growing
 pub mod Whole
 pub mod Places
+pub mod Folded

@@ -1,11 +1,12 @@
 -- The kind of a text, and the test that it passes: the tests stand in a chain, of which the first that is met counts.
 use Rattle.std.proofs.Common.{◌≡◌, ℕ, Bool, true, false, List, [], ◌∷◌, refl, arith}
-use Rattle.std.specs.Prelude.{◌||◌, ◌==◌, if◌then◌else◌}
-use Rattle.std.specs.Char.{is_ascii_lowercase, is_ascii_digit}
+use Rattle.std.specs.Prelude.{◌==◌, if◌then◌else◌}
+use Rattle.std.specs.Char.{is_ascii_lowercase}
 use Rattle.std.proofs.lemmas.Bool.Decides.{nat_tests}
+use Rattle.mf_fraction.specs.Decimal.{is_number}
 use Rattle.mf_model.specs.declared.token.Kind.{Kind}
 use Rattle.mf_model.specs.declared.token.Kind.TheVariants.{Left, Right, Name, Variable, Keyword, Number, Sign, Plain}
-use Rattle.mf_model.specs.Tokens.{is_only, is_name, is_name_behind, is_number, is_unsigned, is_sign, kind_of}
+use Rattle.mf_model.specs.Tokens.{is_only, is_name, is_name_behind, is_sign, kind_of}
 
 abbrev chain : Bool → Bool → Bool → Bool → Bool → Bool → Bool → Kind
 chain left right name variable keyword number sign =
@@ -27,9 +28,6 @@ right_only l r a b c d e h = grind arith
 name_only : (l r a b c d e : Bool) → chain l r a b c d e ≡ Name → a ≡ true
 name_only l r a b c d e h = grind arith
 
-number_only : (l r a b c d e : Bool) → chain l r a b c d e ≡ Number → d ≡ true
-number_only l r a b c d e h = grind arith
-
 pub left_text : (text : List ℕ) → kind_of text ≡ Left → is_only 40 text ≡ true
 unfolding kind_of
 left_text text h = left_only (is_only 40 text) (is_only 41 text) (is_name text) (is_name_behind 63 text) (is_name_behind 58 text) (is_number text) (is_sign text) h
@@ -41,10 +39,6 @@ right_text text h = right_only (is_only 40 text) (is_only 41 text) (is_name text
 pub name_text : (text : List ℕ) → kind_of text ≡ Name → is_name text ≡ true
 unfolding kind_of
 name_text text h = name_only (is_only 40 text) (is_only 41 text) (is_name text) (is_name_behind 63 text) (is_name_behind 58 text) (is_number text) (is_sign text) h
-
-pub number_text : (text : List ℕ) → kind_of text ≡ Number → is_number text ≡ true
-unfolding kind_of
-number_text text h = number_only (is_only 40 text) (is_only 41 text) (is_name text) (is_name_behind 63 text) (is_name_behind 58 text) (is_number text) (is_sign text) h
 
 -- ---- a text that passes a test fails those before it
 
@@ -60,20 +54,3 @@ name_kind (b ∷ bs) h =
     let left = not_only 40 b bs (grind (arith, nat_tests)) in
     let right = not_only 41 b bs (grind (arith, nat_tests)) in
     rw left (rw right (rw h refl))
-
--- a number begins with a digit or with `-`
-number_front : (b : ℕ) (bs : List ℕ) (minus : Bool) → (b == 45) ≡ minus → (if minus then is_unsigned bs else is_unsigned (b ∷ bs)) ≡ true → (b == 45 || is_ascii_digit b) ≡ true
-number_front b bs true is h = rw is refl
-number_front b bs false is h = grind arith
-
-pub number_kind : (text : List ℕ) → is_number text ≡ true → kind_of text ≡ Number
-unfolding kind_of
-number_kind [] h = cc
-number_kind (b ∷ bs) h =
-    let front = number_front b bs (b == 45) refl h in
-    let left = not_only 40 b bs (grind (arith, nat_tests)) in
-    let right = not_only 41 b bs (grind (arith, nat_tests)) in
-    let letter : is_ascii_lowercase b ≡ false = grind (arith, nat_tests) in
-    let variable : (b == 63) ≡ false = grind (arith, nat_tests) in
-    let keyword : (b == 58) ≡ false = grind (arith, nat_tests) in
-    rw left (rw right (rw letter (rw variable (rw keyword (rw h refl)))))

@@ -1,13 +1,14 @@
 ghost use Rattle.std.specs.Prelude.{◌≡◌, [], ◌∷◌, map};
-ghost use Rattle.std.specs.Char.{to_ascii_lowercase, is_ascii_digit};
+ghost use Rattle.std.specs.Char.{to_ascii_lowercase};
 ghost use Rattle.std.specs.List.{list_all};
-ghost use Rattle.mf_model.specs.Tokens.{is_name_byte, is_name, is_name_behind, is_digits, ends_number, is_unsigned, is_number, is_sign, is_only, kind_of};
+ghost use Rattle.mf_model.specs.Tokens.{is_name_byte, is_name, is_name_behind, is_sign, is_only, kind_of};
 
+use mf_fraction::is_number;
 use mf_model::Kind;
 
 /// What a word or a bracket is, whatever the case of its letters: the kind that the lexer gives a token of
 /// these bytes. Bytes that are no token have a kind as well.
-#[tactic(auto, unfolding(mf_model::specs::Tokens::kind_of))]
+#[tactic(auto, unfolding(mf_model::specs::Tokens::kind_of), using(crate::proofs::Folded::number_folded))]
 pub fn kind(word: &[u8]) -> Kind
     ensures { result ≡ kind_of (map to_ascii_lowercase word.now) }
 {
@@ -76,66 +77,6 @@ fn are_name_bytes(mut rest: &[u8]) -> bool
         rest = others;
     }
     true
-}
-
-fn is_digit(byte: u8) -> bool
-    ensures { result ≡ is_ascii_digit (to_ascii_lowercase byte) }
-{
-    byte.to_ascii_lowercase().is_ascii_digit()
-}
-
-fn are_digits(mut rest: &[u8]) -> bool
-    ensures { result ≡ list_all is_ascii_digit (map to_ascii_lowercase rest.entry.now) }
-{
-    while let [byte, others @ ..] = rest {
-        if !is_digit(*byte) {
-            return false;
-        }
-        rest = others;
-    }
-    true
-}
-
-fn is_digits(word: &[u8]) -> bool
-    ensures { result ≡ is_digits (map to_ascii_lowercase word.now) }
-{
-    match word {
-        [first, rest @ ..] => is_digit(*first) && are_digits(rest),
-        [] => false,
-    }
-}
-
-fn ends_number(mut rest: &[u8]) -> bool
-    ensures { result ≡ ends_number (map to_ascii_lowercase rest.entry.now) }
-{
-    while let [byte, others @ ..] = rest {
-        if byte.to_ascii_lowercase() == b'.' {
-            return is_digits(others);
-        }
-        if !is_digit(*byte) {
-            return false;
-        }
-        rest = others;
-    }
-    true
-}
-
-fn is_unsigned(word: &[u8]) -> bool
-    ensures { result ≡ is_unsigned (map to_ascii_lowercase word.now) }
-{
-    match word {
-        [first, rest @ ..] => is_digit(*first) && ends_number(rest),
-        [] => false,
-    }
-}
-
-fn is_number(word: &[u8]) -> bool
-    ensures { result ≡ is_number (map to_ascii_lowercase word.now) }
-{
-    match word {
-        [first, rest @ ..] if first.to_ascii_lowercase() == b'-' => is_unsigned(rest),
-        _ => is_unsigned(word),
-    }
 }
 
 fn is_sign(word: &[u8]) -> bool

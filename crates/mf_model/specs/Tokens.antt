@@ -3,6 +3,7 @@
 use Rattle.std.specs.Prelude.{◌≡◌, ℕ, ◌+◌, ◌<◌, ◌≤◌, Bool, true, false, not, ◌&&◌, ◌||◌, ◌==◌, if◌then◌else◌, nat_le, ◌⊎◌, List, [], ◌∷◌, map, length, slice_index, slice_range}
 use Rattle.std.specs.Char.{to_ascii_lowercase, is_ascii_lowercase, is_ascii_digit}
 use Rattle.std.specs.List.{list_all}
+use Rattle.mf_fraction.specs.Decimal.{is_number}
 use Rattle.mf_model.specs.declared.token.Span.{Span}
 use Rattle.mf_model.specs.declared.token.Token.{Token}
 use Rattle.mf_model.specs.declared.token.Kind.{Kind}
@@ -56,25 +57,6 @@ abbrev pub is_name_behind : ℕ → List ℕ → Bool
 is_name_behind mark [] = false
 is_name_behind mark (b ∷ bs) = b == mark && is_name bs
 
--- one digit or more
-abbrev pub is_digits : List ℕ → Bool
-is_digits [] = false
-is_digits (b ∷ bs) = is_ascii_digit b && list_all is_ascii_digit bs
-
--- what may follow the first digit of a number: digits, and then optionally a point and digits
-abbrev pub ends_number : List ℕ → Bool
-ends_number [] = true
-ends_number (b ∷ bs) = if b == 46 then is_digits bs else (is_ascii_digit b && ends_number bs)
-
-abbrev pub is_unsigned : List ℕ → Bool
-is_unsigned [] = false
-is_unsigned (b ∷ bs) = is_ascii_digit b && ends_number bs
-
--- an optional `-`, digits, and optionally a point and digits
-abbrev pub is_number : List ℕ → Bool
-is_number [] = false
-is_number (b ∷ bs) = if b == 45 then is_unsigned bs else is_unsigned (b ∷ bs)
-
 -- one of `*` `+` `-` `/` `<` `=` `>` `<=` `>=`
 abbrev pub is_sign : List ℕ → Bool
 is_sign [] = false
@@ -87,7 +69,7 @@ is_only c [] = false
 is_only c (b ∷ []) = b == c
 is_only c (b ∷ d ∷ bs) = false
 
--- the kind of a token by its text, which is folded to lower case
+-- the kind of a token by its text, which is folded to lower case; a number is a decimal one
 unfoldable pub kind_of : List ℕ → Kind
 kind_of text =
     if is_only 40 text then Left

@@ -1,7 +1,8 @@
 -- The lines of a plan file, and what stands in a line. Letters are small ones by then: case is folded before.
 use Rattle.std.specs.Prelude.{ℕ, ◌-◌, Bool, true, false, ◌&&◌, ◌||◌, ◌==◌, if◌then◌else◌, List, [], ◌∷◌, ◌++◌, length, take, drop}
 use Rattle.std.specs.List.{before_first}
-use Rattle.mf_model.specs.Tokens.{is_blank, is_bracket, is_name, is_number, is_only}
+use Rattle.mf_fraction.specs.Decimal.{is_number}
+use Rattle.mf_model.specs.Tokens.{is_blank, is_bracket, is_name, is_only}
 
 -- ---- lines
 

@@ -5,6 +5,7 @@ ghost use Rattle.std.specs.Char.{is_ascii_uppercase};
 ghost use Rattle.std.specs.List.{list_all};
 ghost use Rattle.std.specs.Prelude.{◌≡◌, not};
 
+use mf_fraction::is_number;
 use mf_lex::kind;
 use mf_model::Kind;
 
@@ -20,13 +21,6 @@ fn are_small(word: &[u8]) -> bool
     ensures { result ≡ list_all (λ byte. not (is_ascii_uppercase byte)) word.now }
 {
     word.iter().all(|byte| !byte.is_ascii_uppercase())
-}
-
-// An optional `-`, digits, and optionally a point and digits.
-fn is_number(word: &[u8]) -> bool
-    ensures { result ≡ tokens.is_number word.now }
-{
-    kind(word) == Kind::Number
 }
 
 // A number with this byte directly behind it.
