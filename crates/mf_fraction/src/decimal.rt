@@ -1,11 +1,12 @@
-ghost use Rattle.mf_fraction.specs.Decimal.{is_digits, is_number, is_point, is_unsigned_number, places, digits_value, read_parts, read_unsigned, read_of};
+ghost use Rattle.mf_fraction.specs.Decimal.{is_digits, is_number, is_unsigned_number, places, digits_value, read_parts, read_unsigned, read_of};
 ghost use Rattle.mf_fraction.specs.Within.{within, continued};
 ghost use Rattle.std.specs.Char.{is_ascii_digit};
-ghost use Rattle.std.specs.List.{list_all, position, position_or_len};
-ghost use Rattle.std.specs.Prelude.{◌≡◌, ◌≤◌, ◌+◌, ◌++◌, length, drop};
+ghost use Rattle.std.specs.List.{list_all};
+ghost use Rattle.std.specs.Prelude.{◌≡◌, ◌≤◌, ◌++◌};
 
 use crate::arithmetic::turned;
 use crate::lowest::lowest;
+use crate::word::{before_point, behind_point, has_minus, without_minus};
 use crate::{Frac, NumberFault, Wide};
 
 // 2^62 * 10^18: a greater number over at most 10^18 does not fit.
@@ -17,24 +18,18 @@ const MOST_PLACES: usize = 18;
 /// The exact value of a decimal word: an optional `-`, digits, and optionally `.` and digits. Any
 /// other word is `NotANumber`. Else `Wide` comes exactly where more than 18 digits stand behind the
 /// point once the zeros at the end are dropped, or the value does not fit.
+#[tactic(auto, unfolding(crate::specs::Decimal::read_of))]
 pub fn read_decimal(word: &[u8]) -> Result<Frac, NumberFault>
     ensures { result ≡ read_of word.now }
 {
-    if !word.is_empty() && word[0] == b'-' {
-        read_digits(true, &word[1..])
-    } else {
-        read_digits(false, word)
-    }
+    read_digits(has_minus(word), without_minus(word))
 }
 
 /// Whether the word is an optional `-`, digits, and optionally `.` and digits.
 pub fn is_number(word: &[u8]) -> bool
     ensures { result ≡ is_number word.now }
 {
-    match word {
-        [first, digits @ ..] if *first == b'-' => is_unsigned_number(digits),
-        _ => is_unsigned_number(word),
-    }
+    is_unsigned_number(without_minus(word))
 }
 
 // The exact value of a word without a sign, negated where wanted.
@@ -44,42 +39,14 @@ fn read_digits(negative: bool, digits: &[u8]) -> Result<Frac, NumberFault>
     if !is_unsigned_number(digits) {
         return Err(NumberFault::NotANumber);
     }
-    let at = point_place(digits);
-    fraction(negative, &digits[..at], behind(digits, at))
+    fraction(negative, before_point(digits), behind_point(digits))
 }
 
 // Digits alone, or digits on both sides of the point.
 fn is_unsigned_number(digits: &[u8]) -> bool
     ensures { result ≡ is_unsigned_number digits.now }
 {
-    let at = point_place(digits);
-    is_digits(digits) || is_digits(&digits[..at]) && is_digits(behind(digits, at))
-}
-
-// Where the point stands, or the length.
-fn point_place(digits: &[u8]) -> usize
-    ensures place { result ≡ position_or_len is_point digits.now }
-    ensures within { result ≤ length digits.now }
-{
-    point(digits).unwrap_or(digits.len())
-}
-
-fn point(digits: &[u8]) -> Option<usize>
-    ensures { result ≡ position is_point digits.now }
-{
-    digits.iter().position(|byte| *byte == b'.')
-}
-
-// What stands behind the place.
-fn behind(digits: &[u8], at: usize) -> &[u8]
-    requires { at ≤ length digits.now }
-    ensures { result.now ≡ drop (at + 1) digits.now }
-{
-    if at < digits.len() {
-        &digits[at + 1..]
-    } else {
-        &[]
-    }
+    is_digits(digits) || is_digits(before_point(digits)) && is_digits(behind_point(digits))
 }
 
 // One digit or more, and nothing else.

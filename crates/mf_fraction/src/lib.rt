@@ -13,6 +13,7 @@ mod lowest;
 mod negative;
 mod order;
 mod text;
+mod word;
 
 pub use arithmetic::{add, div, mul, sub};
 pub use decimal::{is_number, read_decimal};
@@ -21,6 +22,7 @@ pub use fraction::Frac;
 pub use negative::neg;
 pub use order::{cmp, sign};
 pub use text::write;
+pub use word::{before_point, behind_point, has_minus, without_minus};
 
 #[cfg(test)]
 mod tests;

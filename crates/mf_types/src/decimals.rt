@@ -1,7 +1,7 @@
-ghost use Rattle.std.specs.Prelude.{◌≡◌, ◌<◌, IfSome, length, position};
-ghost use Rattle.std.specs.List.{before_first, after_first};
-ghost use Rattle.mf_fraction.specs.Decimal.{has_minus, is_point, without_minus};
+ghost use Rattle.std.specs.Prelude.{◌≡◌};
 ghost use Rattle.mf_types.specs.StartValues as spec;
+
+use mf_fraction::{before_point, behind_point, has_minus, without_minus};
 
 /// Whether two decimal words of any length write the same number.
 pub(crate) fn is_same_number(one: &[u8], other: &[u8]) -> bool
@@ -25,24 +25,6 @@ fn is_empty(digits: &[u8]) -> bool
     match digits {
         [] => true,
         [_, ..] => false,
-    }
-}
-
-fn has_minus(word: &[u8]) -> bool
-    ensures { result ≡ has_minus word.now }
-{
-    match word {
-        [] => false,
-        [first, ..] => *first == b'-',
-    }
-}
-
-fn without_minus(word: &[u8]) -> &[u8]
-    ensures { result.now ≡ without_minus word.now }
-{
-    match word {
-        [] => word,
-        [first, others @ ..] => { if *first == b'-' { others } else { word } }
     }
 }
 
@@ -84,29 +66,4 @@ fn without_end_zeros(digits: &[u8]) -> &[u8]
         left = others;
     }
     left
-}
-
-fn before_point(digits: &[u8]) -> &[u8]
-    ensures { result.now ≡ before_first is_point digits.now }
-{
-    match point(digits) {
-        Some(at) => &digits[..at],
-        None => digits,
-    }
-}
-
-fn behind_point(digits: &[u8]) -> &[u8]
-    ensures { result.now ≡ after_first is_point digits.now }
-{
-    match point(digits) {
-        Some(at) => &digits[at + 1..],
-        None => &[],
-    }
-}
-
-fn point(digits: &[u8]) -> Option<usize>
-    ensures value { result ≡ position is_point digits.now }
-    ensures within { IfSome result (λ at. at < length digits.now) }
-{
-    digits.iter().position(|byte| *byte == b'.')
 }

@@ -1,4 +1,5 @@
-use Rattle.std.proofs.Common.{◌∙◌, refl, take}
+use Rattle.std.proofs.Common.{◌∙◌, ap₂, List, ℕ}
+use Rattle.mf_fraction.specs.Decimal.{read_parts}
 use Rattle.mf_fraction.proofs.Words.{no_number, a_number}
 use Rattle.mf_fraction.proofs.decimal.read_digits.Goals as goal
 
@@ -8,4 +9,6 @@ returns-then-not-is_unsigned_number c =
 
 pub returns : goal.returns
 returns c =
-    c.fraction.ensures ∙ a_number c.args.negative c.args.digits.now (take c.point_place-at.result c.args.digits.now) c.behind.result.now c.point_place-at.result c.is_unsigned_number.result c.point_place-at.ensures.place refl c.behind.ensures c.is_unsigned_number.ensures c.if-not-is_unsigned_number.false
+    c.fraction.ensures
+    ∙ ap₂ (λ (x y : List ℕ). read_parts c.args.negative x y) c.before_point.ensures c.behind_point.ensures
+    ∙ a_number c.args.negative c.args.digits.now c.is_unsigned_number.result c.is_unsigned_number.ensures c.if-not-is_unsigned_number.false
