@@ -1,6 +1,7 @@
 -- Plain states: the sorted list of the true ground atoms with the sorted list of the defined ground terms and their values.
 use Rattle.std.specs.Prelude.{ℕ, Bool, true, false, ◌&&◌, ◌||◌, not, if◌then◌else◌, nat_eq, nat_lt, List, [], ◌∷◌, filter, Option, Some, None}
 use Rattle.std.specs.List.{fold, list_any}
+use Rattle.std.specs.Cmp.Lexicographic.{pointwise}
 use Rattle.mf_fraction.specs.Exact.{Number}
 use Rattle.mf_model.specs.declared.task.Atom.{Atom}
 use Rattle.mf_model.specs.declared.task.Valued.{Valued}
@@ -9,10 +10,7 @@ use Rattle.mf_model.specs.declared.state.PlainState.{PlainState}
 use Rattle.mf_model.specs.Views.{Look}
 
 abbrev pub same_numbers : List ℕ → List ℕ → Bool
-same_numbers [] [] = true
-same_numbers [] (m ∷ ms) = false
-same_numbers (n ∷ ns) [] = false
-same_numbers (n ∷ ns) (m ∷ ms) = nat_eq n m && same_numbers ns ms
+same_numbers = pointwise nat_eq
 
 -- lexicographic order
 abbrev pub numbers_before : List ℕ → List ℕ → Bool

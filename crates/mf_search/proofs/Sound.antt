@@ -84,7 +84,7 @@ made_grows sp w z i s g h (inl start) = inl (record { maker_is = rw (g.extends.s
 made_grows sp w z i s g h (inr made) = inr (record { parent = made.parent; lower = made.lower; done = g.done made.parent made.done; entry = rw (g.extends.same made.parent (s.in_range made.parent made.done.taken), g.extends.same i h) made.entry })
 
 -- A number that was not taken differs from each that was.
-not_among : (taken : List ℕ) (i : ℕ) → (Contains taken i → ⊥) → (k d : ℕ) → k < length taken → get_or taken k d ≢ i
+pub not_among : (taken : List ℕ) (i : ℕ) → (Contains taken i → ⊥) → (k d : ℕ) → k < length taken → get_or taken k d ≢ i
 not_among taken i new k d h e = new (subst (λ t. Contains taken t) e (Contains-get_or taken k d h))
 
 once_push : (taken : List ℕ) (i : ℕ) → AllDifferent taken → (Contains taken i → ⊥) → AllDifferent (taken ++ i ∷ [])
