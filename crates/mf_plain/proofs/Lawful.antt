@@ -4,7 +4,7 @@ use Rattle.std.specs.List.{list_any, AllByRecursion, IsDistinct}
 use Rattle.std.proofs.lemmas.List.{length-map}
 use Rattle.std.proofs.lemmas.Bool.{or_cases, eqb-true, ne_eqb, false≢true}
 use Rattle.std.proofs.lemmas.List.{length_push}
-use Rattle.std.proofs.lemmas.List.Elements.{Contains-push_cases, Contains-get_or}
+use Rattle.std.proofs.lemmas.List.Elements.{Contains-push_cases}
 use Rattle.std.proofs.lemmas.List.Quantifiers.{all_pairs_push}
 use Rattle.std.proofs.lemmas.Map.Steps.{length-le_from_distinct_below}
 use Rattle.mf_model.specs.declared.task.TypedTask.{TypedTask}
@@ -20,7 +20,7 @@ use Rattle.mf_search.specs.Answers.{Answers, InfiniteIsDead}
 use Rattle.mf_search.proofs.Answering.{no_plan_is_right, one_answer}
 use Rattle.mf_search.proofs.OneWorker.{only_history}
 use Rattle.mf_search.proofs.Members.{in_first, in_later}
-use Rattle.mf_search.proofs.Sound.{Sound, legal_sound}
+use Rattle.mf_search.proofs.Sound.{Sound, legal_sound, not_among}
 use Rattle.mf_plain.specs.declared.history.Searched.{Searched}
 use Rattle.mf_plain.specs.PlainSpace.{space_of}
 use Rattle.mf_plain.specs.Searches.{IsSearched, world_of}
@@ -58,10 +58,6 @@ distinct_from (x ∷ xs) apart =
 
 few_below : (xs : List ℕ) (n : ℕ) → AllDifferent xs → ((k : ℕ) → Contains xs k → k < n) → length xs ≤ n
 few_below xs n apart below = length-le_from_distinct_below xs n (distinct_from xs apart) (λ q h. below q (any_contains xs q h))
-
--- A number that was not taken differs from each that was.
-not_among : (taken : List ℕ) (i : ℕ) → (Contains taken i → ⊥) → (k d : ℕ) → k < length taken → get_or taken k d ≢ i
-not_among taken i new k d h e = new (subst (λ t. Contains taken t) e (Contains-get_or taken k d h))
 
 pub budget_reached : (task : TypedTask) (budget : ℕ) (searched : Searched) → IsSearched task budget searched → searched.status ≡ Budget → budget < length searched.history.rows
 budget_reached task budget searched s e =

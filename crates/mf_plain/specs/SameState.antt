@@ -11,21 +11,13 @@ use Rattle.mf_model.specs.declared.task.Atom.{Atom}
 use Rattle.mf_model.specs.declared.task.Cell.{Cell}
 use Rattle.mf_model.specs.declared.task.Valued.{Valued}
 use Rattle.mf_model.specs.declared.state.PlainState.{PlainState}
+use Rattle.mf_model.specs.States.{same_numbers, same_atom, same_cell}
 
 abbrev pub same_number : Number → Number → Bool
 same_number a b = int_eq a.num b.num && nat_eq a.den b.den
 
-abbrev pub same_objects : List ℕ → List ℕ → Bool
-same_objects = pointwise nat_eq
-
-abbrev pub same_atom : Atom → Atom → Bool
-same_atom a b = nat_eq a.predicate b.predicate && same_objects a.objects b.objects
-
-abbrev pub same_cell : Cell → Cell → Bool
-same_cell a b = nat_eq a.function b.function && same_objects a.objects b.objects
-
 abbrev pub same_valued : Valued → Valued → Bool
-same_valued a b = same_cell a.cell b.cell && same_number a.value b.value
+same_valued a b = same_cell a b && same_number a.value b.value
 
 abbrev pub same_state : PlainState → PlainState → Bool
 same_state x y = pointwise same_atom x.atoms y.atoms && pointwise same_valued x.values y.values
@@ -43,8 +35,8 @@ same_number_is : (a b : Number) → Decides (same_number a b) (a ≡ b)
 same_number_is a b =
     Decides-like _ (number_from_parts a b) (number_parts a b) (Decides-and _ _ (Decides-int_eq a.num b.num) (Decides-eqb a.den b.den))
 
-same_objects_is : (xs ys : List ℕ) → Decides (same_objects xs ys) (xs ≡ ys)
-same_objects_is xs ys = slice_eq-Decides Decides-eqb xs ys (same_objects xs ys) refl
+same_numbers_is : (xs ys : List ℕ) → Decides (same_numbers xs ys) (xs ≡ ys)
+same_numbers_is xs ys = slice_eq-Decides Decides-eqb xs ys (same_numbers xs ys) refl
 
 atom_from_parts : (a b : Atom) → (a.predicate ≡ b.predicate) × (a.objects ≡ b.objects) → a ≡ b
 atom_from_parts a b h =
@@ -57,7 +49,7 @@ atom_parts a b h = (ap (λ (x : Atom). x.predicate) h, ap (λ (x : Atom). x.obje
 
 same_atom_is : (a b : Atom) → Decides (same_atom a b) (a ≡ b)
 same_atom_is a b =
-    Decides-like _ (atom_from_parts a b) (atom_parts a b) (Decides-and _ _ (Decides-eqb a.predicate b.predicate) (same_objects_is a.objects b.objects))
+    Decides-like _ (atom_from_parts a b) (atom_parts a b) (Decides-and _ _ (Decides-eqb a.predicate b.predicate) (same_numbers_is a.objects b.objects))
 
 cell_from_parts : (a b : Cell) → (a.function ≡ b.function) × (a.objects ≡ b.objects) → a ≡ b
 cell_from_parts a b h =
@@ -68,9 +60,9 @@ cell_from_parts a b h =
 cell_parts : (a b : Cell) → a ≡ b → (a.function ≡ b.function) × (a.objects ≡ b.objects)
 cell_parts a b h = (ap (λ (x : Cell). x.function) h, ap (λ (x : Cell). x.objects) h)
 
-same_cell_is : (a b : Cell) → Decides (same_cell a b) (a ≡ b)
+same_cell_is : (a b : Valued) → Decides (same_cell a b) (a.cell ≡ b.cell)
 same_cell_is a b =
-    Decides-like _ (cell_from_parts a b) (cell_parts a b) (Decides-and _ _ (Decides-eqb a.function b.function) (same_objects_is a.objects b.objects))
+    Decides-like _ (cell_from_parts a.cell b.cell) (cell_parts a.cell b.cell) (Decides-and _ _ (Decides-eqb a.cell.function b.cell.function) (same_numbers_is a.cell.objects b.cell.objects))
 
 valued_from_parts : (a b : Valued) → (a.cell ≡ b.cell) × (a.value ≡ b.value) → a ≡ b
 valued_from_parts a b h =
@@ -83,7 +75,7 @@ valued_parts a b h = (ap (λ (x : Valued). x.cell) h, ap (λ (x : Valued). x.val
 
 same_valued_is : (a b : Valued) → Decides (same_valued a b) (a ≡ b)
 same_valued_is a b =
-    Decides-like _ (valued_from_parts a b) (valued_parts a b) (Decides-and _ _ (same_cell_is a.cell b.cell) (same_number_is a.value b.value))
+    Decides-like _ (valued_from_parts a b) (valued_parts a b) (Decides-and _ _ (same_cell_is a b) (same_number_is a.value b.value))
 
 state_from_parts : (a b : PlainState) → (a.atoms ≡ b.atoms) × (a.values ≡ b.values) → a ≡ b
 state_from_parts a b h =
