@@ -1,5 +1,5 @@
 -- The argument lists of a plain task: every parameter takes every object.
-use Rattle.std.proofs.Common.{◌≡◌, Bool, true, false, ◌||◌, ◌&&◌, ◌==◌, if◌then◌else◌, ℕ, zero, suc, ◌+◌, ◌<◌, ◌≤◌, ◌++◌, List, [], ◌∷◌, All, length, get_or, drop, refl, sym, ap, ◌∙◌, subst, arith, add-zero, add-one}
+use Rattle.std.proofs.Common.{◌≡◌, Bool, true, false, ◌||◌, ◌&&◌, ◌==◌, ℕ, zero, suc, ◌+◌, ◌<◌, ◌≤◌, ◌++◌, List, [], ◌∷◌, All, length, get_or, drop, refl, sym, ap, ◌∙◌, subst, arith, add-zero, add-one}
 use Rattle.std.specs.List.{flat_map, list_all}
 use Rattle.std.proofs.lemmas.Bool.{false≢true}
 use Rattle.std.proofs.lemmas.Bool.Decides.{Decides-eqb}
@@ -12,6 +12,7 @@ use Rattle.mf_model.specs.declared.task.TypedTask.{TypedTask}
 use Rattle.mf_model.specs.declared.state.Instance.{Instance}
 use Rattle.mf_model.specs.Application.{instances_from}
 use Rattle.mf_model.specs.Objects.{HaveTopType, ancestors, bindings, having, kinds_of, meets, member, parents_of}
+use Rattle.mf_model.proofs.Choices.{if_true}
 use Rattle.mf_plain.specs.PlainTask.{IsObjectType}
 use Rattle.mf_plain.specs.SearchTask.{IsSearchAction, IsSearchTask}
 use Rattle.mf_plain.specs.Listing.{numbers_from, with_next, extended, of_action}
@@ -34,10 +35,6 @@ next_push front object = ap (λ os. with_next os front) (numbers_push object) �
 abbrev HasObject : List ℕ → Type 0
 HasObject kinds = meets (0 ∷ []) kinds ≡ true
 
-one_more : (b : Bool) (n : ℕ) (rest : List ℕ) → b ≡ true → (if b then n ∷ rest else rest) ≡ n ∷ rest
-one_more true n rest e = refl
-one_more false n rest e = let h : ⊥ = cc in absurd h
-
 or_first : (a b : Bool) → (a || false) ≡ true → (a || b) ≡ true
 or_first true b h = refl
 or_first false b h = absurd (false≢true h)
@@ -57,7 +54,7 @@ top_met (suc n ∷ others) kinds t h =
 having_all : (types : List ℕ) (kinds : List (List ℕ)) (n : ℕ) → IsObjectType types → All HasObject kinds → having types n kinds ≡ numbers_from n (length kinds)
 having_all types [] n t all = refl
 having_all types (k ∷ kinds) n t all =
-    one_more (meets types k) n (having types (n + 1) kinds) (top_met types k t (All-head HasObject k kinds all))
+    if_true (meets types k) (n ∷ having types (n + 1) kinds) (having types (n + 1) kinds) (top_met types k t (All-head HasObject k kinds all))
     ∙ ap (λ r. n ∷ r) (having_all types kinds (n + 1) t (All-tail HasObject k kinds all))
 
 having_top : (task : TypedTask) (types : List ℕ) → HaveTopType task → IsObjectType types → having types 0 (kinds_of task) ≡ numbers_from 0 (length task.objects)
