@@ -1,6 +1,7 @@
 //! Data of the tokens, trees, files and tasks of a planner, and the definitions of what they mean.
 #![tactic(auto)]
 
+mod descent;
 mod form;
 mod list;
 mod shared_list;
@@ -12,6 +13,7 @@ mod token;
 mod tree;
 mod truth;
 
+pub use descent::{HasParent, descends};
 pub use form::{
     Domain, FileKind, Header, Problem, RawAction, RawCond, RawEffect, RawExpr, RawMetric, RawValue,
     Typed, Word,

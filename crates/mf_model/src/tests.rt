@@ -1,4 +1,4 @@
-use crate::{List, SharedList, Text};
+use crate::{List, SharedList, Text, TypeName, descends};
 use std::test::Fail;
 
 #[test]
@@ -50,5 +50,23 @@ fn texts_grow(rt: HostRuntime) -> Result<(), Fail> {
     let mut roomy = Text::with_capacity(alloc, 300)?;
     roomy.push(b'a')?;
     assert_eq!(rt; roomy.as_slice(), b"a".as_slice());
+    Ok(())
+}
+
+#[test]
+fn types_descend(rt: HostRuntime) -> Result<(), Fail> {
+    let alloc = rt.alloc();
+    let mut types = List::new(alloc);
+    for parent in [0, 0, 1, 0] {
+        let name = Text::new(alloc);
+        types.push(TypeName { name, parent })?;
+    }
+    assert!(rt; descends(types.as_slice(), 2, 2));
+    assert!(rt; descends(types.as_slice(), 2, 1));
+    assert!(rt; descends(types.as_slice(), 2, 0));
+    assert!(rt; !descends(types.as_slice(), 2, 3));
+    assert!(rt; !descends(types.as_slice(), 1, 2));
+    assert!(rt; descends(&[0usize, 2, 1], 1, 2));
+    assert!(rt; !descends(&[0usize, 2, 1], 1, 0));
     Ok(())
 }
