@@ -1,5 +1,6 @@
 -- Tests of the parts of a task that the plain search takes: conditions are atoms and conjunctions, effects are added and
--- deleted atoms and groups, and in each atom, those of the start too, the numbers name what is declared.
+-- deleted atoms and groups, and in each atom, those of the start too, the numbers name what is declared (the STRIPS
+-- fragment of PDDL 2.1: Fox and Long, JAIR 2003, section 2).
 use Rattle.std.specs.Prelude.{ℕ, Bool, true, false, ◌&&◌, List, [], ◌∷◌, length, Option, Some, None, slice_get, nat_lt, nat_eq}
 use Rattle.mf_model.specs.declared.task.Term.{Term}
 use Rattle.mf_model.specs.declared.task.Term.TheVariants.{Variable, Object}
