@@ -1,8 +1,8 @@
 ghost use Rattle.mf_eval.specs.Judged.{kinds_of_object};
-ghost use Rattle.mf_model.specs.Objects.{ancestors, meets, member};
-ghost use Rattle.std.specs.Prelude.{◌≡◌, length, map, slice_index_or};
+ghost use Rattle.mf_model.specs.Objects.{meets, member};
+ghost use Rattle.std.specs.Prelude.{◌≡◌};
 
-use mf_model::{Object, TypeName, TypedTask};
+use mf_model::{Object, TypedTask, descends};
 
 /// Whether the object has one of the types: a declared one of its own is it, or descends from it.
 pub fn has_some_type(task: &TypedTask, object: &Object, types: &[u16]) -> bool
@@ -20,36 +20,11 @@ pub fn has_some_type(task: &TypedTask, object: &Object, types: &[u16]) -> bool
 fn has_type(task: &TypedTask, object: &Object, wanted: u16) -> bool
     ensures { result ≡ member wanted (kinds_of_object task.now object.now) }
 {
+    let types = task.types.as_slice();
     for declared in object.types.as_slice() {
-        if descends(task.types.as_slice(), *declared, wanted) {
+        if descends(types, usize::from(*declared), usize::from(wanted)) {
             return true;
         }
     }
     false
-}
-
-// Whether the type is the wanted one, or descends from it.
-fn descends(types: &[TypeName], from: u16, wanted: u16) -> bool
-    ensures { result ≡ member wanted (ancestors (map (λ t. t.parent) types.now) (length types.now) from) }
-{
-    let mut current = from;
-    for _step in 0..types.len() {
-        if current == wanted {
-            return true;
-        }
-        if current == 0 {
-            return false;
-        }
-        current = parent_of(types, current);
-    }
-    false
-}
-
-fn parent_of(types: &[TypeName], at: u16) -> u16
-    ensures { result ≡ slice_index_or (map (λ t. t.parent) types.now) at 0 }
-{
-    match types.get(usize::from(at)) {
-        Some(found) => found.parent,
-        None => 0,
-    }
 }
