@@ -1,4 +1,4 @@
-ghost use Rattle.std.specs.Prelude.{◌≡◌, ℕ, List, [], ◌∷◌, ◌||◌, IfOk, OnOk};
+ghost use Rattle.std.specs.Prelude.{◌≡◌, ℕ, List, [], ◌∷◌, ◌||◌, IfOk, OnOk, slice_index_or};
 ghost use Rattle.mf_model.specs.Objects.{member};
 ghost use Rattle.mf_types.specs.Ascent.{Settles, SettlesMore, IsClimb};
 ghost use Rattle.mf_types.specs.Cycles as spec;
@@ -8,7 +8,7 @@ ghost use Rattle.mf_types.specs.Tables.{declared_of};
 
 use crate::kept::says_nothing;
 use crate::least::{Fault, FaultKind, at_word};
-use crate::tables::{Tables, parent_of};
+use crate::tables::Tables;
 use indexmap::IndexSet;
 use mf_model::{FileKind, Typed};
 use std::alloc::{AllocError, Global};
@@ -114,6 +114,15 @@ fn is_top(parents: &[usize], number: usize) -> bool
     ensures { result ≡ spec.is_top parents.now number }
 {
     number == 0 && parent_of(parents, 0) == 0
+}
+
+fn parent_of(parents: &[usize], number: usize) -> usize
+    ensures { result ≡ slice_index_or parents.now number 0 }
+{
+    match parents.get(number) {
+        Some(parent) => *parent,
+        None => 0,
+    }
 }
 
 // Settles a type and so many above it.

@@ -8,7 +8,7 @@ ghost use Rattle.mf_types.specs.Tables.{declared_of};
 use crate::changed::changed;
 use crate::declared::{object_table, symbol_table};
 use crate::type_table::type_table;
-use mf_model::{Domain, List, Problem};
+use mf_model::{Domain, List, Problem, descends};
 use mf_names::Names;
 use std::alloc::{AllocError, Global};
 
@@ -146,31 +146,12 @@ fn are_related(parents: &[usize], types: &[usize], others: &[usize]) -> bool
 fn is_related_to_one(parents: &[usize], own: usize, others: &[usize]) -> bool
     ensures { result ≡ list_any (λ other. related.is_related parents.now own other) others.now }
 {
-    others.iter().any(|other| descends(parents, own, *other) || descends(parents, *other, own))
+    others.iter().any(|other| is_related(parents, own, *other))
 }
 
-// Whether a type is the wanted one, or descends from it.
-fn descends(parents: &[usize], from: usize, wanted: usize) -> bool
-    ensures { result ≡ related.descends parents.now from wanted }
+// Whether one of two types is the other, or descends from it.
+fn is_related(parents: &[usize], own: usize, other: usize) -> bool
+    ensures { result ≡ related.is_related parents.now own other }
 {
-    let mut current = from;
-    for _step in 0..parents.len() {
-        if current == wanted {
-            return true;
-        }
-        if current == 0 {
-            return false;
-        }
-        current = parent_of(parents, current);
-    }
-    false
-}
-
-pub(crate) fn parent_of(parents: &[usize], number: usize) -> usize
-    ensures { result ≡ slice_index_or parents.now number 0 }
-{
-    match parents.get(number) {
-        Some(parent) => *parent,
-        None => 0,
-    }
+    descends(parents, own, other) || descends(parents, other, own)
 }
