@@ -7,7 +7,7 @@ use Rattle.mf_model.specs.declared.truth.Truth.{Truth}
 use Rattle.mf_model.specs.Meaning.{truth_of}
 use Rattle.mf_model.specs.Views.{Look, objects_of}
 use Rattle.mf_eval.specs.Judged.{judged}
-use Rattle.mf_eval.specs.Scope.{greatest}
+use Rattle.mf_model.specs.Trees.{greatest}
 
 pub within_greatest : {A : Type 0} (f : A → ℕ) (parts : List A) (i : ℕ) (d : A) → i < length parts → f (get_or parts i d) ≤ greatest (map f parts)
 within_greatest f [] i d h = absurd (omega arith)

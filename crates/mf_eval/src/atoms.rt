@@ -7,7 +7,7 @@ ghost use Rattle.std.specs.Prelude.{◌≡◌, IfOk, OnOk};
 use crate::deed::Deed;
 use crate::fault::Memory;
 use crate::order::is_same_atom;
-use crate::sorted::{copy_atom, put_atom};
+use crate::sorted::put_atom;
 use mf_model::Atom;
 use std::alloc::Global;
 
@@ -31,7 +31,7 @@ fn copy_atoms(alloc: Global, atoms: &[Atom]) -> Result<Vec<Atom>, Memory>
 {
     let mut copies = Vec::new(alloc);
     for atom in atoms {
-        copies.push(copy_atom(alloc, atom)?)?;
+        copies.push(atom.copy(alloc)?)?;
     }
     Ok(copies)
 }
@@ -57,7 +57,7 @@ fn add_atoms(alloc: Global, atoms: &mut Vec<Atom>, deeds: &[Deed]) -> Result<(),
 {
     for deed in deeds {
         if let Deed::Added(atom) = deed {
-            put_atom(atoms, copy_atom(alloc, atom)?)?;
+            put_atom(atoms, atom.copy(alloc)?)?;
         }
     }
     Ok(())

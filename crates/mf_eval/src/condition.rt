@@ -1,6 +1,7 @@
 ghost use Rattle.mf_eval.specs.Answers.{answered};
 ghost use Rattle.mf_eval.specs.Judged.{judged, judged_all, judged_parts, judged_quantifier, judged_with, met};
-ghost use Rattle.mf_eval.specs.Scope.{scope_of, greatest};
+ghost use Rattle.mf_eval.specs.Scope.{scope_of};
+ghost use Rattle.mf_model.specs.Trees.{greatest};
 ghost use Rattle.mf_eval.specs.Width.{is_condition_wide};
 ghost use Rattle.mf_model.specs.Meaning.{truth_in};
 ghost use Rattle.mf_model.specs.Objects.{having, kinds_of};

@@ -1,44 +1,16 @@
 ghost use Rattle.mf_eval.specs.Places.{IsAtomPlace, IsValuePlace};
 ghost use Rattle.mf_model.specs.States.{with_atom, with_value};
-ghost use Rattle.std.specs.Prelude.{◌≡◌, IfOk, OnOk};
+ghost use Rattle.std.specs.Prelude.{◌≡◌, OnOk};
 
 use crate::fault::Memory;
 use crate::order::{is_atom_before, is_cell_before, is_same_atom, is_same_cell};
-use mf_model::{Atom, Cell, Valued};
-use std::alloc::Global;
+use mf_model::{Atom, Valued};
 
 /// A place in a sorted list.
 #[derive(Clone, Copy)]
 pub(crate) enum Place {
     There(usize),
     New(usize),
-}
-
-pub(crate) fn copy_atom(alloc: Global, atom: &Atom) -> Result<Atom, Memory>
-    ensures { IfOk result (λ copy. copy ≡ atom.now) }
-{
-    Ok(Atom {
-        predicate: atom.predicate,
-        objects: atom.objects.copy(alloc)?,
-    })
-}
-
-pub(crate) fn copy_value(alloc: Global, valued: &Valued) -> Result<Valued, Memory>
-    ensures { IfOk result (λ copy. copy ≡ valued.now) }
-{
-    Ok(Valued {
-        cell: copy_cell(alloc, &valued.cell)?,
-        value: valued.value,
-    })
-}
-
-pub(crate) fn copy_cell(alloc: Global, cell: &Cell) -> Result<Cell, Memory>
-    ensures { IfOk result (λ copy. copy ≡ cell.now) }
-{
-    Ok(Cell {
-        function: cell.function,
-        objects: cell.objects.copy(alloc)?,
-    })
 }
 
 // Puts the atom into a sorted list, where it is not there already.

@@ -3,7 +3,7 @@ ghost use Rattle.std.specs.List.{fold};
 ghost use Rattle.std.specs.Prelude.{◌≡◌, [], IfOk};
 
 use crate::fault::Memory;
-use crate::sorted::{copy_atom, copy_value, put_atom, put_value};
+use crate::sorted::{put_atom, put_value};
 use mf_model::{Atom, List, PlainState, TypedTask, Valued};
 use std::alloc::Global;
 
@@ -22,7 +22,7 @@ fn start_atoms(alloc: Global, listed: &[Atom]) -> Result<Vec<Atom>, Memory>
 {
     let mut atoms = Vec::new(alloc);
     for atom in listed {
-        put_atom(&mut atoms, copy_atom(alloc, atom)?)?;
+        put_atom(&mut atoms, atom.copy(alloc)?)?;
     }
     Ok(atoms)
 }
@@ -32,7 +32,7 @@ fn start_values(alloc: Global, listed: &[Valued]) -> Result<Vec<Valued>, Memory>
 {
     let mut values = Vec::new(alloc);
     for valued in listed {
-        put_value(&mut values, copy_value(alloc, valued)?)?;
+        put_value(&mut values, valued.copy(alloc)?)?;
     }
     Ok(values)
 }

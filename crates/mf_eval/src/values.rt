@@ -7,7 +7,7 @@ use crate::changes::value_of;
 use crate::deed::Deed;
 use crate::fault::{ApplyFault, Memory};
 use crate::operation::{Operation, operate};
-use crate::sorted::{copy_cell, copy_value, put_value};
+use crate::sorted::put_value;
 use mf_fraction::{Frac, Wide};
 use mf_model::{Op, Valued};
 use std::alloc::Global;
@@ -30,7 +30,7 @@ fn copy_values(alloc: Global, values: &[Valued]) -> Result<Vec<Valued>, Memory>
 {
     let mut copies = Vec::new(alloc);
     for valued in values {
-        copies.push(copy_value(alloc, valued)?)?;
+        copies.push(valued.copy(alloc)?)?;
     }
     Ok(copies)
 }
@@ -53,7 +53,7 @@ fn change_value(alloc: Global, values: &mut Vec<Valued>, deed: &Deed) -> Result<
         Deed::Changed { op, cell, value } => {
             let old = value_of(values.as_slice(), cell);
             if let Some(value) = changed_value(*op, old, *value)? {
-                let cell = copy_cell(alloc, cell)?;
+                let cell = cell.copy(alloc)?;
                 put_value(values, Valued { cell, value })?;
             }
             Ok(())

@@ -16,7 +16,8 @@ use Rattle.mf_types.specs.Typing.{Binders, inside, within, types_in, predicate_o
 use Rattle.mf_types.proofs.Given.{IfGiven, anything, then_given, made_given, both_given}
 use Rattle.mf_types.proofs.TaskReadings.{at_most}
 use Rattle.mf_types.proofs.ValidConditions.{HasRoom, inside_valid}
-use Rattle.mf_eval.specs.Scope.{greatest, scope_step, scope_of}
+use Rattle.mf_model.specs.Trees.{greatest}
+use Rattle.mf_eval.specs.Scope.{scope_step, scope_of}
 
 -- numbers of variables
 

@@ -15,7 +15,8 @@ use Rattle.mf_model.specs.declared.task.Effect.TheFolds.{fold-roll-Effect, map-E
 use Rattle.mf_types.specs.Names.{Declared}
 use Rattle.mf_types.specs.Typing.{Binders, within, types_in, predicate_of, function_of, terms_of, expr_of, cond_of, literal, change, effect_step, effect_of}
 use Rattle.mf_types.proofs.Given.{IfGiven, anything, then_given, made_given, both_given}
-use Rattle.mf_eval.specs.Scope.{greatest, scope_of, effect_scope_step, effect_scope_of}
+use Rattle.mf_model.specs.Trees.{greatest}
+use Rattle.mf_eval.specs.Scope.{scope_of, effect_scope_step, effect_scope_of}
 use Rattle.mf_input.proofs.RoomConditions.{fits_zero, fits_same, fits_max, parts_fit, within_fits, types_count, cond_fits}
 
 rolled : (whole : Effect) (y : Effect-F Effect) → roll-Effect y ≡ whole → effect_scope_of whole ≡ effect_scope_step (map-Effect Effect ℕ effect_scope_of y)

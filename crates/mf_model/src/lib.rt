@@ -1,6 +1,7 @@
 //! Data of the tokens, trees, files and tasks of a planner, and the definitions of what they mean.
 #![tactic(auto)]
 
+mod copies;
 mod descent;
 mod form;
 mod list;

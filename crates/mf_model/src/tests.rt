@@ -1,4 +1,5 @@
-use crate::{List, SharedList, Text, TypeName, descends};
+use crate::{Atom, Cell, Instance, List, SharedList, Text, TypeName, Valued, descends};
+use mf_fraction::Frac;
 use std::test::Fail;
 
 #[test]
@@ -68,5 +69,30 @@ fn types_descend(rt: HostRuntime) -> Result<(), Fail> {
     assert!(rt; !descends(types.as_slice(), 1, 2));
     assert!(rt; descends(&[0usize, 2, 1], 1, 2));
     assert!(rt; !descends(&[0usize, 2, 1], 1, 0));
+    Ok(())
+}
+
+#[test]
+fn ground_parts_are_copied(rt: HostRuntime) -> Result<(), Fail> {
+    let alloc = rt.alloc();
+    let atom = Atom {
+        predicate: 3,
+        objects: List::from_slice(alloc, &[1u16, 2])?,
+    };
+    assert!(rt; atom.copy(alloc)? == atom);
+    let valued = Valued {
+        cell: Cell {
+            function: 4,
+            objects: List::from_slice(alloc, &[5u16])?,
+        },
+        value: Frac::whole(7)?,
+    };
+    assert!(rt; valued.copy(alloc)? == valued);
+    assert!(rt; valued.cell.copy(alloc)? == valued.cell);
+    let instance = Instance {
+        action: 6,
+        objects: List::from_slice(alloc, &[2u16, 0])?,
+    };
+    assert!(rt; instance.copy(alloc)? == instance);
     Ok(())
 }

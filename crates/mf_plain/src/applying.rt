@@ -6,7 +6,7 @@ ghost use Rattle.mf_plain.specs.Changes.{only_changes_atoms, adds_of, deletes_of
 use crate::Memory;
 use crate::order::put;
 use crate::terms::{ground, names};
-use mf_model::{Atom, Cell, Effect, List, PlainState, Valued};
+use mf_model::{Atom, Effect, List, PlainState, Valued};
 use std::alloc::Global;
 
 /// Whether the effect deletes the atom.
@@ -29,15 +29,6 @@ fn deletes(effect: &Effect, binding: &[u16], atom: &Atom) -> bool
     }
 }
 
-pub(crate) fn copy_atom(alloc: Global, atom: &Atom) -> Result<Atom, Memory>
-    ensures { IfOk result (λ copy. copy ≡ atom.now) }
-{
-    Ok(Atom {
-        predicate: atom.predicate,
-        objects: atom.objects.copy(alloc)?,
-    })
-}
-
 /// The atoms that the effect doesn't delete.
 fn kept(
     alloc: Global,
@@ -51,7 +42,7 @@ fn kept(
     let mut list = List::new(alloc);
     for atom in atoms {
         if !deletes(effect, binding, atom) {
-            list.push(copy_atom(alloc, atom)?)?;
+            list.push(atom.copy(alloc)?)?;
         }
     }
     Ok(list)
@@ -83,25 +74,12 @@ fn add(
     Ok(())
 }
 
-fn copy_valued(alloc: Global, valued: &Valued) -> Result<Valued, Memory>
-    ensures { IfOk result (λ copy. copy ≡ valued.now) }
-{
-    let cell = Cell {
-        function: valued.cell.function,
-        objects: valued.cell.objects.copy(alloc)?,
-    };
-    Ok(Valued {
-        cell,
-        value: valued.value,
-    })
-}
-
 fn copy_values(alloc: Global, values: &[Valued]) -> Result<List<Valued>, Memory>
     ensures { IfOk result (λ list. list ≡ values.now) }
 {
     let mut list = List::new(alloc);
     for valued in values {
-        list.push(copy_valued(alloc, valued)?)?;
+        list.push(valued.copy(alloc)?)?;
     }
     Ok(list)
 }

@@ -5,7 +5,6 @@ ghost use Rattle.mf_model.specs.States.{with_atom};
 ghost use Rattle.mf_plain.specs.Conjunctions.{needs_of};
 ghost use Rattle.mf_plain.specs.UnderWay.{IsUnderWay};
 
-use crate::applying::copy_atom;
 use crate::holding::{list_needs, unmet};
 use crate::order::put;
 use crate::progress::{Progress, open};
@@ -28,7 +27,7 @@ fn sorted(alloc: Global, atoms: &[Atom]) -> Result<List<Atom>, Memory>
 {
     let mut list = List::new(alloc);
     for atom in atoms {
-        put(&mut list, copy_atom(alloc, atom)?)?;
+        put(&mut list, atom.copy(alloc)?)?;
     }
     Ok(list)
 }

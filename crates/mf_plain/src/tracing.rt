@@ -33,15 +33,6 @@ fn numbers_back(alloc: Global, searched: &Searched, goal: usize) -> Result<List<
     Ok(numbers)
 }
 
-fn copy_instance(alloc: Global, instance: &Instance) -> Result<Instance, Memory>
-    ensures { IfOk result (λ copy. copy ≡ instance.now) }
-{
-    Ok(Instance {
-        action: instance.action,
-        objects: instance.objects.copy(alloc)?,
-    })
-}
-
 /// The instances of the numbers, from the last number to the first.
 fn steps_back(
     alloc: Global,
@@ -54,7 +45,7 @@ fn steps_back(
     let mut steps = List::new(alloc);
     while let Some(number) = numbers.pop() {
         let instance = &instances[number as usize];
-        steps.push(copy_instance(alloc, instance)?)?;
+        steps.push(instance.copy(alloc)?)?;
     }
     Ok(steps)
 }

@@ -14,7 +14,7 @@ use Rattle.mf_reader.specs.Said.{Said, said, bad, left_out, both, each}
 use Rattle.mf_reader.specs.Faces.{has_text, is_dash, name_at, no_word, span_of, word}
 use Rattle.mf_reader.specs.Places.{Seen}
 use Rattle.mf_reader.specs.Seen.{seen}
-use Rattle.mf_reader.specs.Typed.{alone, either_types, list_types, list_parent, item_in, types_in, with_types, grouped, group_from, dash_from, typed_list}
+use Rattle.mf_reader.specs.Typed.{alone, either_types, list_types, list_parent, item_in, types_in, grouped, group_from, dash_from, typed_list}
 use Rattle.mf_reader.specs.GrammarTerms.{IsNamedType, IsType, Group, IsDash, IsItem, AreGrouped, typed_as, typed_items, AreTyped, IsVariableList}
 use Rattle.mf_reader.proofs.Branches.{seen_leaf, seen_branch, by_cases}
 use Rattle.mf_reader.proofs.Readings.{Reads, some_fault, none_of_both, both_said, mapped_said, each_sound, each_complete, all_reads}
@@ -201,7 +201,7 @@ group_complete : (listed : Listed) (Of : List Word → Tree → Type 0) → ((t 
 group_complete listed Of kinds [] types d k rest later some dash kind h = absurd (some refl)
 group_complete listed Of kinds (w ∷ ws) types d k rest later some dash kind h =
     if_true (is_dash (seen d).face) (dash_from listed (w ∷ ws) (span_of (seen d).face) (map seen (k ∷ rest))) (both (λ w rest. rest) (item_in listed (seen d)) (group_from listed ((w ∷ ws) ++ (item_in listed (seen d)).value ∷ []) (map seen (k ∷ rest)))) (text_complete (codes "-") d dash)
-    ∙ both_said (λ types items. with_types types (w ∷ ws) ++ items) (types_in listed (seen k)) (group_from listed [] (map seen rest)) types later ((kinds k).complete types kind) h
+    ∙ both_said (λ types items. typed_as types (w ∷ ws) ++ items) (types_in listed (seen k)) (group_from listed [] (map seen rest)) types later ((kinds k).complete types kind) h
 
 groups_complete : (listed : Listed) (Form : Word → Tree → Type 0) (Of : List Word → Tree → Type 0) → ((t : Tree) → Reads (item_in listed) Form t) → ((t : Tree) → Reads (types_in listed) Of t) → (groups : List (Group Word (List Word))) (last : List Word) (ts : List Tree) → AreGrouped Form Of groups last ts → group_from listed [] (map seen ts) ≡ said (typed_items groups last)
 groups_complete listed Form Of items kinds [] last ts h =

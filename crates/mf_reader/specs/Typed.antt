@@ -6,6 +6,7 @@ use Rattle.mf_model.specs.declared.form.Typed.{Typed}
 use Rattle.mf_reader.specs.declared.typed.Listed.{Listed}
 use Rattle.mf_reader.specs.declared.typed.Listed.TheVariants.{Variables, Names, Types}
 use Rattle.mf_reader.specs.Faces.{has_text, is_dash, name_at, no_word, span_of, variable_at, word}
+use Rattle.mf_reader.specs.GrammarTerms.{typed_as}
 use Rattle.mf_reader.specs.Places.{Seen}
 use Rattle.mf_reader.specs.Said.{Said, said, bad, left_out, both, mapped, each}
 
@@ -43,20 +44,17 @@ types_in Variables s = s.types
 types_in Names s = s.types
 types_in Types s = mapped alone s.parent
 
-abbrev pub with_types : List Word → List Word → List Typed
-with_types types words = map (λ w. record { word = w; types = types }) words
-
 -- Lists
 
 -- a group with its type, and the groups behind it; a `-` without an item before it ends the list
 abbrev pub grouped : Listed → List Word → Span → Seen → Said (List Typed) → Said (List Typed)
 grouped listed [] span s rest = bad span []
-grouped listed (w ∷ ws) span s rest = both (λ types items. with_types types (w ∷ ws) ++ items) (types_in listed s) rest
+grouped listed (w ∷ ws) span s rest = both (λ types items. typed_as types (w ∷ ws) ++ items) (types_in listed s) rest
 
 -- a group that has these words so far, and what follows; a `-` with nothing behind it ends the list too
 abbrev mutual
   pub group_from : Listed → List Word → List Seen → Said (List Typed)
-  group_from listed words [] = said (with_types [] words)
+  group_from listed words [] = said (typed_as [] words)
   group_from listed words (s ∷ ss) =
       if is_dash s.face then dash_from listed words (span_of s.face) ss
       else both (λ w rest. rest) (item_in listed s) (group_from listed (words ++ (item_in listed s).value ∷ []) ss)

@@ -1,5 +1,6 @@
 ghost use Rattle.std.specs.Prelude.{◌≡◌, ◌≤◌, ◌∷◌, IfOk, length, map};
 ghost use Rattle.mf_reader.specs.Faces.{name_at};
+ghost use Rattle.mf_reader.specs.GrammarTerms.{typed_as};
 ghost use Rattle.mf_reader.specs.Groups as reading;
 ghost use Rattle.mf_reader.specs.Said.{Gives, each, said};
 ghost use Rattle.mf_reader.specs.Seen.{seen};
@@ -128,7 +129,7 @@ fn with_types(
     types: &SharedList<Word>,
     words: List<Word>,
 ) -> Result<List<Typed>, FormFault>
-    ensures { Gives result (said (spec.with_types types.now words)) }
+    ensures { Gives result (said (typed_as types.now words)) }
 {
     let mut out = List::new(alloc);
     for word in words.into_vec() {

@@ -2,6 +2,7 @@
 use Rattle.std.proofs.Common.{◌≡◌, refl, sym, ◌∙◌, ap, subst, ℕ, ◌+◌, Bool, true, false, if◌then◌else◌, List, [], ◌∷◌, ◌++◌, length, Result, Ok, Err, IsTrue, arith, inl, inr}
 use Rattle.std.specs.List.{All, Contains}
 use Rattle.std.proofs.lemmas.List.Elements.{All-head, All-tail}
+use Rattle.mf_model.proofs.Choices.{if_true, if_false}
 use Rattle.mf_model.specs.declared.state.Instance.{Instance}
 use Rattle.mf_model.specs.declared.state.PlainState.{PlainState}
 use Rattle.mf_model.specs.declared.task.TypedTask.{TypedTask}
@@ -37,14 +38,6 @@ through task (step ∷ front) rest done state applied =
 
 -- ---- the end
 
-when_true : {A : Type 0} (b : Bool) (x y : A) → b ≡ true → (if b then x else y) ≡ x
-when_true true x y e = refl
-when_true false x y e = cc
-
-when_false : {A : Type 0} (b : Bool) (x y : A) → b ≡ false → (if b then x else y) ≡ y
-when_false true x y e = cc
-when_false false x y e = refl
-
 differ : (b : Bool) → b ≡ true → b ≡ false → ⊥
 differ b t f = cc
 
@@ -70,16 +63,16 @@ plan_ends task state (step ∷ steps) valid = plan_ends task (next_state task st
 valid-verdict : (task : TypedTask) (plan : List Instance) (metric : Reported) → IsValid task plan metric → verdict_of task plan ≡ Ok (verdict.Valid metric)
 valid-verdict task plan metric valid =
     at_end task plan valid.applied
-    ∙ when_false (goal_is_wide task (last_state task plan)) _ _ valid.goal_fits
-    ∙ when_true (is_goal task (last_state task plan)) _ _ (plan_ends task (start_of task) plan valid.is_plan)
-    ∙ when_false (metric_is_wide task.metric (length plan) (last_state task plan)) _ _ valid.metric_fits
+    ∙ if_false (goal_is_wide task (last_state task plan)) _ _ valid.goal_fits
+    ∙ if_true (is_goal task (last_state task plan)) _ _ (plan_ends task (start_of task) plan valid.is_plan)
+    ∙ if_false (metric_is_wide task.metric (length plan) (last_state task plan)) _ _ valid.metric_fits
     ∙ ap (λ r. Ok (verdict.Valid r)) (sym valid.metric_is)
 
 misses-verdict : (task : TypedTask) (plan : List Instance) → MissesGoal task plan → verdict_of task plan ≡ Ok verdict.GoalFails
 misses-verdict task plan misses =
     at_end task plan misses.applied
-    ∙ when_false (goal_is_wide task (last_state task plan)) _ _ misses.goal_fits
-    ∙ when_false (is_goal task (last_state task plan)) _ _ misses.misses
+    ∙ if_false (goal_is_wide task (last_state task plan)) _ _ misses.goal_fits
+    ∙ if_false (is_goal task (last_state task plan)) _ _ misses.misses
 
 stops-verdict : (task : TypedTask) (plan : List Instance) (Refused : PlainState → Instance → Type 0) (number : ℕ) (reason : ApplyFault)
     → ((state : PlainState) (step : Instance) → Refused state step → outcome_of task state step ≡ Err reason)
@@ -96,8 +89,8 @@ end_too_wide : (task : TypedTask) (plan : List Instance) (number : ℕ) → Ends
 end_too_wide task plan number ends =
     let state : PlainState = last_state task plan in
     elim ends.wide [
-      | inl wide ↦ when_true (goal_is_wide task state) _ _ wide
-      | inr wide ↦ when_false (goal_is_wide task state) _ _ wide.0 ∙ when_true (is_goal task state) _ _ wide.1 ∙ when_true (metric_is_wide task.metric (length plan) state) _ _ wide.2
+      | inl wide ↦ if_true (goal_is_wide task state) _ _ wide
+      | inr wide ↦ if_false (goal_is_wide task state) _ _ wide.0 ∙ if_true (is_goal task state) _ _ wide.1 ∙ if_true (metric_is_wide task.metric (length plan) state) _ _ wide.2
     ]
 
 end-verdict : (task : TypedTask) (plan : List Instance) (number : ℕ) → EndsTooWide task plan number → verdict_of task plan ≡ Err (fault.Wide number)

@@ -7,7 +7,7 @@ use Rattle.mf_model.specs.declared.task.Action.{Action}
 use Rattle.mf_model.specs.declared.task.TypedTask.{TypedTask}
 use Rattle.mf_model.specs.Application.{instances_from, instances_of}
 use Rattle.mf_model.specs.Objects.{bindings, having, kinds_of}
-use Rattle.mf_eval.specs.Scope.{action_scope_of}
+use Rattle.mf_eval.specs.Scope.{action_scope_of, BindsFewVariables}
 
 all-flat_map : {X A : Type 0} (P : A → Type 0) (f : X → List A) → ((x : X) → All P (f x)) → (xs : List X) → All P (flat_map f xs)
 all-flat_map P f h [] = All-nil P
@@ -26,17 +26,14 @@ bindings-length objects (types ∷ others) b =
 abbrev pub BindsFew : List Action → Instance → Type 0
 BindsFew actions step = length step.objects + action_scope_of (slice_get actions step.action) ≤ 64
 
-abbrev pub ActionBindsFew : Action → Type 0
-ActionBindsFew action = length action.parameters + action_scope_of (Some action) ≤ 64
-
 behind : (front : List Action) (action : Action) (actions : List Action) → slice_get (front ++ action ∷ actions) (length front) ≡ Some action
 behind [] action actions = refl
 behind (a ∷ front) action actions = behind front action actions
 
-of_one : (all : List Action) (n : ℕ) (action : Action) → slice_get all n ≡ Some action → ActionBindsFew action → (arguments : List ℕ) → length arguments ≡ 0 + length action.parameters → BindsFew all (record { action = n; objects = arguments })
+of_one : (all : List Action) (n : ℕ) (action : Action) → slice_get all n ≡ Some action → BindsFewVariables action → (arguments : List ℕ) → length arguments ≡ 0 + length action.parameters → BindsFew all (record { action = n; objects = arguments })
 of_one all n action found few arguments h = rw found (omega (arith, h, few))
 
-all_few : (objects : List (List ℕ)) (front actions : List Action) (n : ℕ) → n ≡ length front → All ActionBindsFew actions → All (BindsFew (front ++ actions)) (instances_from objects n actions)
+all_few : (objects : List (List ℕ)) (front actions : List Action) (n : ℕ) → n ≡ length front → All BindsFewVariables actions → All (BindsFew (front ++ actions)) (instances_from objects n actions)
 all_few objects front [] n e few = All-nil (BindsFew (front ++ []))
 all_few objects front (action ∷ actions) n e few =
     let all : List Action = front ++ action ∷ actions in
@@ -45,10 +42,10 @@ all_few objects front (action ∷ actions) n e few =
     All-append (BindsFew all) (map (λ arguments. record { action = n; objects = arguments }) (bindings objects action.parameters [])) (instances_from objects (n + 1) actions)
     (All-map (BindsFew all) (λ arguments. record { action = n; objects = arguments }) (bindings objects action.parameters [])
     (All-weaker (λ arguments. length arguments ≡ 0 + length action.parameters) (λ arguments. BindsFew all (record { action = n; objects = arguments }))
-    (of_one all n action found (All-head ActionBindsFew action actions few)) (bindings objects action.parameters []) (bindings-length objects action.parameters [])))
+    (of_one all n action found (All-head BindsFewVariables action actions few)) (bindings objects action.parameters []) (bindings-length objects action.parameters [])))
     (subst (λ (xs : List Action). All (BindsFew xs) (instances_from objects (n + 1) actions)) (append_assoc front (action ∷ []) actions)
-    (all_few objects (front ++ action ∷ []) actions (n + 1) next (All-tail ActionBindsFew action actions few)))
+    (all_few objects (front ++ action ∷ []) actions (n + 1) next (All-tail BindsFewVariables action actions few)))
 
 -- each instance of the task binds few variables where each action does
-pub binds_few : (task : TypedTask) (step : Instance) → All ActionBindsFew task.actions → Contains (instances_of task) step → BindsFew task.actions step
+pub binds_few : (task : TypedTask) (step : Instance) → All BindsFewVariables task.actions → Contains (instances_of task) step → BindsFew task.actions step
 binds_few task step few within = All-contains (BindsFew task.actions) (instances_of task) step (all_few (kinds_of task) [] task.actions 0 refl few) within

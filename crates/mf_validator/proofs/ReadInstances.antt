@@ -18,15 +18,13 @@ use Rattle.mf_model.specs.Resolution.{number_of}
 use Rattle.mf_validator.specs.declared.fault.PlanFault.{PlanFault}
 use Rattle.mf_validator.specs.PlanLines.{Line, Blank, Step, Bad, line_of, lines_of}
 use Rattle.mf_validator.specs.PlanText.{Reads, action_names, alone, argument_of, arguments_of, by_action, fitting, folded, instance_of, joined, object_names, parameters_of, plan_of, steps_from, steps_of, with_arguments}
+use Rattle.mf_validator.proofs.ArgumentLemmas.{one_behind}
 use Rattle.mf_validator.proofs.LineLemmas.{few-lines}
 
 -- ---- elements
 
 first : {X : Type 0} (x : X) (xs : List X) → Contains (x ∷ xs) x
 first x xs = (0, omega arith, refl)
-
-later : {X : Type 0} (y : X) (xs : List X) (x : X) → Contains xs x → Contains (y ∷ xs) x
-later y xs x within = (suc within.0, omega (arith, within.1), within.2)
 
 mapped : {X Y : Type 0} (f : X → Y) (xs : List X) (x : X) → Contains xs x → Contains (map f xs) (f x)
 mapped f xs x within = (within.0, omega (arith, within.1, length-map xs f), get_or-map f xs within.0 x ∙ ap f within.2)
@@ -45,7 +43,7 @@ meets_none [] = refl
 meets_none (t ∷ types) = meets_none types
 
 behind_one : (meeting : Bool) (n : ℕ) (others : List ℕ) (x : ℕ) → Contains others x → Contains (if meeting then n ∷ others else others) x
-behind_one true n others x within = later n others x within
+behind_one true n others x within = Contains-append_right (n ∷ []) others x within
 behind_one false n others x within = within
 
 having-it : (types : List ℕ) (n k : ℕ) (kinds : List (List ℕ)) → meets types (slice_index_or kinds k []) ≡ true → Contains (having types n kinds) (n + k)
@@ -70,14 +68,11 @@ argument-fits : (task : TypedTask) (types : List ℕ) (found : Option ℕ) (obje
 argument-fits task types None object e = cc
 argument-fits task types (Some number) object e = fits_by task types (meets types (slice_index_or (kinds_of task) number [])) number object refl e
 
-one_more : Option ℕ → Option (List ℕ) → Option (List ℕ)
-one_more found rest = found >>= λ object. rest >>= λ objects. Some (object ∷ objects)
-
 more_by : (kinds : List (List ℕ)) (types : List ℕ) (parameters : List (List ℕ)) (b : List ℕ) (found : Option ℕ) (rest : Option (List ℕ)) (objects : List ℕ)
     → ((object : ℕ) → found ≡ Some object → Contains (having types 0 kinds) object)
     → ((others front : List ℕ) → rest ≡ Some others → Contains (bindings kinds parameters front) (front ++ others))
-    → one_more found rest ≡ Some objects → Contains (bindings kinds (types ∷ parameters) b) (b ++ objects)
-unfolding one_more
+    → one_behind found rest ≡ Some objects → Contains (bindings kinds (types ∷ parameters) b) (b ++ objects)
+unfolding one_behind
 more_by kinds types parameters b None rest objects one others e = cc
 more_by kinds types parameters b (Some object) None objects one others e = cc
 more_by kinds types parameters b (Some object) (Some rest) objects one others e =
@@ -89,7 +84,7 @@ more_by kinds types parameters b (Some object) (Some rest) objects one others e 
 
 -- the arguments are a binding of the parameters
 arguments-bind : (task : TypedTask) (parameters names : List (List ℕ)) (b objects : List ℕ) → arguments_of task parameters names ≡ Some objects → Contains (bindings (kinds_of task) parameters b) (b ++ objects)
-unfolding one_more
+unfolding one_behind
 arguments-bind task [] [] b objects e =
     let is : objects ≡ [] = cc in
     subst (λ (os : List ℕ). Contains (b ∷ []) (b ++ os)) (sym is) (subst (λ (os : List ℕ). Contains (b ∷ []) os) (sym (append-nil b)) (first b []))

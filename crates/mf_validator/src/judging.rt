@@ -1,4 +1,4 @@
-ghost use Rattle.mf_eval.specs.Scope.{action_scope_of, scope_of};
+ghost use Rattle.mf_eval.specs.Scope.{BindsFewVariables, scope_of};
 ghost use Rattle.mf_eval.specs.declared.fault.Why.{Why};
 ghost use Rattle.mf_model.specs.Application.{instances_of};
 ghost use Rattle.mf_model.specs.States.{start_of};
@@ -23,7 +23,7 @@ use std::alloc::Global;
 pub fn judge(alloc: Global, task: &TypedTask, plan: &[Instance]) -> Result<Verdict, JudgeFault>
     requires few { length plan.now + 1 < 2 ^ 32 }
     requires objects { length task.now.objects ≤ 65535 }
-    requires variables { All (λ action. length action.parameters + action_scope_of (Some action) ≤ 64) task.now.actions }
+    requires variables { All BindsFewVariables task.now.actions }
     requires steps { All (Contains (instances_of task.now)) plan.now }
     requires goal { scope_of task.now.goal ≤ 64 }
     ensures answer { Gives (verdict_of task.now plan.now) result }
@@ -39,7 +39,7 @@ pub fn judge(alloc: Global, task: &TypedTask, plan: &[Instance]) -> Result<Verdi
 fn walk(alloc: Global, task: &TypedTask, plan: &[Instance]) -> Result<Verdict, JudgeFault>
     requires few { length plan.now + 1 < 2 ^ 32 }
     requires objects { length task.now.objects ≤ 65535 }
-    requires variables { All (λ action. length action.parameters + action_scope_of (Some action) ≤ 64) task.now.actions }
+    requires variables { All BindsFewVariables task.now.actions }
     requires steps { All (Contains (instances_of task.now)) plan.now }
     requires goal { scope_of task.now.goal ≤ 64 }
     ensures { Gives (verdict_of task.now plan.now) result }

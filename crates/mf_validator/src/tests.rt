@@ -1,4 +1,4 @@
-ghost use Rattle.mf_eval.specs.Scope.{action_scope_of, effect_scope_of, scope_of};
+ghost use Rattle.mf_eval.specs.Scope.{BindsFewVariables, effect_scope_of, scope_of};
 ghost use Rattle.std.specs.List.{All};
 ghost use Rattle.std.specs.Prelude.{◌≡◌, ◌+◌, ◌≤◌, [], ◌∷◌, IfOk, Some, length};
 
@@ -51,7 +51,7 @@ fn arrive(alloc: Global) -> Result<Effect, Fail>
 
 // `go ?from ?to`: from a place to another.
 fn go(alloc: Global) -> Result<Action, Fail>
-    ensures { IfOk result (λ action. length action.parameters + action_scope_of (Some action) ≤ 64) }
+    ensures { IfOk result BindsFewVariables }
 {
     Ok(Action {
         name: text(alloc, "go")?,
@@ -82,7 +82,7 @@ fn type_name(alloc: Global, name: &str) -> Result<TypeName, Fail> {
 // Two places, of which one is to be reached in few steps.
 fn task(alloc: Global) -> Result<TypedTask, Fail>
     ensures actions { IfOk result (λ task. length task.actions ≡ 1) }
-    ensures few { IfOk result (λ task. All (λ action. length action.parameters + action_scope_of (Some action) ≤ 64) task.actions) }
+    ensures few { IfOk result (λ task. All BindsFewVariables task.actions) }
     ensures objects { IfOk result (λ task. length task.objects ≡ 2) }
     ensures goal { IfOk result (λ task. scope_of task.goal ≡ 0) }
 {
