@@ -3,7 +3,6 @@ pub mod EffectLaw
 pub mod ExpressionLaw
 pub mod Judging
 pub mod Kept
-pub mod Numbers
 pub mod Ordered
 pub mod Outcomes
 pub mod Parts

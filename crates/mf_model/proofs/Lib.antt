@@ -2,3 +2,4 @@ pub mod Ancestors
 pub mod Choices
 pub mod Examples
 pub mod PlacedTrees
+pub mod Numbers

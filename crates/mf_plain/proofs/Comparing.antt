@@ -22,21 +22,9 @@ same_end xs ys i h k = rw (drop_all i xs h) (⊎_elim more none (cases_lt i (len
     none : length ys ≤ i → same_numbers [] (drop i ys) ≡ nat_eq i (length ys)
     none l = rw (drop_all i ys l, eq-eqb i (length ys) (omega arith)) refl
 
-pub before_end : (xs ys : List ℕ) (i : ℕ) → length xs ≤ i → i ≤ length ys → numbers_before (drop i xs) (drop i ys) ≡ nat_lt i (length ys)
-before_end xs ys i h k = rw (drop_all i xs h) (⊎_elim more none (cases_lt i (length ys)))
-  where
-    more : i < length ys → numbers_before [] (drop i ys) ≡ nat_lt i (length ys)
-    more l = rw (drop_more ys i 0 l, lt-ltb i (length ys) l) refl
-
-    none : length ys ≤ i → numbers_before [] (drop i ys) ≡ nat_lt i (length ys)
-    none l = rw (drop_all i ys l, le-ltb i (length ys) l) refl
-
 -- The same at the end of the first list.
 pub same_all : (xs ys : List ℕ) (i : ℕ) → length xs ≡ i → i ≤ length ys → nat_eq (length xs) (length ys) ≡ same_numbers (drop i xs) (drop i ys)
 same_all xs ys i h k = ap (λ n. nat_eq n (length ys)) h ∙ sym (same_end xs ys i (omega arith) k)
-
-pub before_all : (xs ys : List ℕ) (i : ℕ) → length xs ≡ i → i ≤ length ys → nat_lt (length xs) (length ys) ≡ numbers_before (drop i xs) (drop i ys)
-before_all xs ys i h k = ap (λ n. nat_lt n (length ys)) h ∙ sym (before_end xs ys i (omega arith) k)
 
 -- Terms against objects: x is what the term at i stands for.
 pub terms_differ : (b : List ℕ) (ts : List Term) (os : List ℕ) (i : ℕ) (d : Term) (x : ℕ) → i < length ts → i < length os → x ≡ object_of b (get_or ts i d) → (x ≡ get_or os i 0 → ⊥) → same_numbers (drop i (objects_of b ts)) (drop i os) ≡ false

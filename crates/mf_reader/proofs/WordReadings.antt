@@ -2,7 +2,8 @@
 use Rattle.std.proofs.Common.{◌≡◌, ℕ, Bool, true, false, if◌then◌else◌, Option, Some, None, List, [], refl, ap, sym, ◌∙◌, subst, inl, inr}
 use Rattle.std.specs.Str.{bytes_eq}
 use Rattle.std.proofs.lemmas.Slice.Eq.{bytes_eq-Decides}
-use Rattle.mf_model.proofs.Choices.{same_text, some_same}
+use Rattle.std.proofs.lemmas.Option.{same_Some}
+use Rattle.mf_model.proofs.Choices.{same_text}
 use Rattle.mf_model.specs.declared.token.Kind.{Kind}
 use Rattle.mf_model.specs.declared.token.Kind.TheVariants.{Left, Right, Name, Variable, Keyword, Number, Sign, Plain}
 use Rattle.mf_model.specs.declared.token.Span.{Span}
@@ -129,7 +130,7 @@ some_is : {A B : Type 0} (x : A) (o : Option A) → None ≡ Some x → B
 some_is x o e = let h : ⊥ = cc in absurd h
 
 name_of_leaf : (kind : Kind) (text : List ℕ) (span : Span) (t : Tree) (w : Word) → IsLeaf kind text span t → function_of (Leaf kind text span) ≡ Some w → IsName w t
-name_of_leaf Name text span t w h e = subst (λ (v : Word). IsName v t) (some_same (word text span) w e) h
+name_of_leaf Name text span t w h e = subst (λ (v : Word). IsName v t) (same_Some (word text span) w e) h
 name_of_leaf Left text span t w h e = some_is w None e
 name_of_leaf Right text span t w h e = some_is w None e
 name_of_leaf Variable text span t w h e = some_is w None e
@@ -149,7 +150,7 @@ function_complete t w h = ap function_of (face_leaf Name w.text w.span t h)
 free_sound : (t : Tree) (v w : Word) (b : Bool) → is_reserved v.text ≡ b → IsName v t → (if b then None else Some v) ≡ Some w → IsPredicate w t
 unfolding is_reserved
 free_sound t v w true is h e = some_is w None e
-free_sound t v w false is h e = subst (λ (x : Word). IsPredicate x t) (some_same v w e) (h, is)
+free_sound t v w false is h e = subst (λ (x : Word). IsPredicate x t) (same_Some v w e) (h, is)
 
 predicate_leaf : (kind : Kind) (text : List ℕ) (span : Span) (t : Tree) (w : Word) → IsLeaf kind text span t → predicate_of (Leaf kind text span) ≡ Some w → IsPredicate w t
 predicate_leaf Name text span t w h e = free_sound t (word text span) w (is_reserved text) refl h e

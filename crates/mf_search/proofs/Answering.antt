@@ -9,7 +9,7 @@ use Rattle.mf_search.specs.declared.entry.Entry.TheVariants.{Take, Done, Wide}
 use Rattle.mf_search.specs.Greedy.{Expanded}
 use Rattle.mf_search.specs.Answers.{AllIdle, Answers, Ended, IsStatus, Walk, IsPlanFrom, LeadsToGoal, InfiniteIsDead, IsClosed, with_step, trace, plan_to}
 use Rattle.std.proofs.lemmas.Bool.{true≢false, false≢true}
-use Rattle.mf_search.proofs.Members.{no_some}
+use Rattle.std.proofs.lemmas.Option.{none-some}
 use Rattle.mf_search.proofs.Sound.{IsDone, IsStart, MadeByDone, Sound, legal_sound}
 use Rattle.mf_search.proofs.Rebuilding.{within_itself, done_expanded}
 
@@ -37,7 +37,7 @@ plan_is_right {S} sp budget workers entries i legal e =
 
 -- Where the answer is no plan each opened state is done.
 no_plan_done : {S : Type 0} (sp : Space S) (budget : ℕ) (w : World S) (i : ℕ) → Sound sp w → Answers budget w NoPlan → i < length w.opened → IsDone sp w i
-no_plan_done sp budget w i s answer low = record { taken = answer.2 i low; at_rest = λ v h. no_some i (sym (answer.1 v) ∙ h); no_goal = s.no_goal answer.0 i (answer.2 i low) }
+no_plan_done sp budget w i s answer low = record { taken = answer.2 i low; at_rest = λ v h. none-some i (sym (answer.1 v) ∙ h); no_goal = s.no_goal answer.0 i (answer.2 i low) }
 
 no_plan_closes : {S : Type 0} (sp : Space S) (budget : ℕ) (w : World S) → Sound sp w → Answers budget w NoPlan → IsClosed sp w.opened
 no_plan_closes {S} sp budget w s answer = record {
@@ -100,8 +100,8 @@ one_answer budget w Budget Halted h k = absurd k
 -- Where the search goes on and nothing is in expansion, no entry but a take may come.
 idle_stops : {S : Type 0} (sp : Space S) (budget workers : ℕ) (w : World S) (e : Entry) → AllIdle w → ((worker i : ℕ) → MayTake sp budget workers w worker i → ⊥) → May sp budget workers w e → ⊥
 idle_stops sp budget workers w (Take worker i) idle none may = none worker i may
-idle_stops sp budget workers w (Done worker i) idle none may = no_some i (sym (idle worker) ∙ may.holds)
-idle_stops sp budget workers w (Wide worker i n) idle none may = no_some i (sym (idle worker) ∙ may.holds)
+idle_stops sp budget workers w (Done worker i) idle none may = none-some i (sym (idle worker) ∙ may.holds)
+idle_stops sp budget workers w (Wide worker i n) idle none may = none-some i (sym (idle worker) ∙ may.holds)
 
 may_going : {S : Type 0} (sp : Space S) (budget workers : ℕ) (w : World S) (e : Entry) → May sp budget workers w e → w.ending ≡ Going
 may_going sp budget workers w (Take worker i) may = may.going

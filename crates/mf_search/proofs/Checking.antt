@@ -2,12 +2,12 @@
 use Rattle.std.proofs.Common.{◌≡◌, ℕ, zero, suc, ◌<◌, ◌≤◌, ◌⊎◌, ◌&&◌, ◌||◌, Bool, true, false, not, eqb, ltb, leb, List, [], ◌∷◌, Option, Some, None, Contains, length, refl, sym, ap, ◌∙◌, inl, inr, ⊎_elim, subst, arith}
 use Rattle.std.proofs.lemmas.Bool.{false≢true, and_parts, or_cases, not-true, both_ways, eqb-true, ltb-true, leb-true, cases_lt}
 use Rattle.std.proofs.lemmas.Bool.Decides.{nat_tests}
+use Rattle.std.proofs.lemmas.Option.{none-some}
 use Rattle.mf_search.specs.declared.entry.Entry.{Entry}
 use Rattle.mf_search.specs.declared.entry.Entry.TheVariants.{Take, Done, Wide}
 use Rattle.mf_search.specs.Space.{Grown, Listed, LeadsOut, Space, IsListed}
 use Rattle.mf_search.specs.World.{Opened, Ending, Going, AtGoal, AtWide, World, at, begin, next, mark_rank, KeyAtMost, May, LegalFrom, Legal}
 use Rattle.mf_search.specs.Rebuilt.{member}
-use Rattle.mf_search.proofs.Members.{no_some}
 use Rattle.mf_search.proofs.Candidates.{member_in, in_member}
 use Rattle.mf_search.proofs.OneWorker.{InNumber, begin_in_number, next_in_number}
 
@@ -95,7 +95,7 @@ least_from {S} sp w i (suc n) h j low out = go (cases_lt j n) (least_from sp w i
         ⊎_elim (λ k. subst (λ t. KeyAtMost (at sp w.opened i) i (at sp w.opened t) t) same k) (λ k. absurd (out (subst (λ t. Contains w.taken t) same k))) here
 
 permits_from : {S : Type 0} (sp : Space S) (w : World S) (i : ℕ) (o : Option ℕ) (j : ℕ) → permits sp w i o ≡ true → o ≡ Some j → (at sp w.opened i).value ≤ (at sp w.opened j).value
-permits_from sp w i None j h e = absurd (no_some j e)
+permits_from sp w i None j h e = absurd (none-some j e)
 permits_from sp w i (Some k) j h e = let l = leb-true (at sp w.opened i).value (at sp w.opened k).value h in let same : k ≡ j = cc in subst (λ t. (at sp w.opened i).value ≤ (at sp w.opened t).value) same l
 
 permit_from : {S : Type 0} (sp : Space S) (w : World S) (i n : ℕ) → permit_test sp w i n ≡ true → (v j : ℕ) → v < n → w.busy v ≡ Some j → (at sp w.opened i).value ≤ (at sp w.opened j).value

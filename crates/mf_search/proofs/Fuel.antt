@@ -1,6 +1,7 @@
 -- The bounds of the recursions are enough: the rebuilt run and the trace by parents, and the completed run step by step.
 use Rattle.std.proofs.Common.{◌≡◌, ℕ, zero, suc, ◌<◌, ◌≤◌, ◌⊎◌, ◌++◌, Bool, List, [], ◌∷◌, Option, Some, None, length, refl, sym, ap, ◌∙◌, inl, inr, arith}
 use Rattle.std.proofs.lemmas.Option.{same_Some}
+use Rattle.std.proofs.lemmas.Option.{none-some}
 use Rattle.mf_search.specs.declared.entry.Entry.{Entry}
 use Rattle.mf_search.specs.declared.maker.Maker.{Maker}
 use Rattle.mf_search.specs.declared.maker.Maker.TheVariants.{Start, Step}
@@ -8,7 +9,7 @@ use Rattle.mf_search.specs.Space.{Space}
 use Rattle.mf_search.specs.World.{Opened, World, at, Legal, world}
 use Rattle.mf_search.specs.Rebuilt.{best_below, appended, completed, parent_of, with_parent, run_before, rebuilt}
 use Rattle.mf_search.specs.Answers.{with_step, trace, plan_to}
-use Rattle.mf_search.proofs.Members.{not_in_nil, no_some}
+use Rattle.mf_search.proofs.Members.{not_in_nil}
 use Rattle.mf_search.proofs.Sound.{IsStart, MadeByDone, Sound, legal_sound}
 use Rattle.mf_search.proofs.Candidates.{BestIs, best_is, free, free_le, free_pos, free_less, completed_stays}
 
@@ -53,7 +54,7 @@ pub sound_parents : {S : Type 0} (sp : Space S) (w : World S) → Sound sp w →
 sound_parents {S} sp w s i p low e = go (s.made i low)
   where
     go : IsStart sp w.opened i ⊎ MadeByDone sp w i → p < i
-    go (inl start) = absurd (no_some p (sym (ap parent_of start.maker_is) ∙ e))
+    go (inl start) = absurd (none-some p (sym (ap parent_of start.maker_is) ∙ e))
     go (inr made) = let same : made.parent ≡ p = same_Some made.parent p (sym (ap parent_of made.entry.maker_is) ∙ e) in let l = made.lower in omega arith
 
 pub run_before_enough : {S : Type 0} (sp : Space S) (os : List (Opened S)) (f g i : ℕ) → ParentsLower sp os → i < length os → i < f → i < g → run_before sp os f i ≡ run_before sp os g i

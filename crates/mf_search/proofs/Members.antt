@@ -1,5 +1,5 @@
 -- What stands in a list: by cases on the list, and in the list of a function's results.
-use Rattle.std.proofs.Common.{◌≡◌, Some, None, ℕ, zero, suc, ◌<◌, ◌⊎◌, List, [], ◌∷◌, Contains, length, get_or, map, refl, inl, inr, ⊎_elim, subst, arith}
+use Rattle.std.proofs.Common.{◌≡◌, ℕ, zero, suc, ◌<◌, ◌⊎◌, List, [], ◌∷◌, Contains, length, get_or, map, refl, inl, inr, ⊎_elim, subst, arith}
 
 pub not_in_nil : {X : Type 0} (x : X) → Contains [] x → ⊥
 not_in_nil x c = let h = c.1 in omega arith
@@ -32,6 +32,3 @@ from_map f (z ∷ xs) y c =
     (λ (e : f z ≡ y). (z, in_first z xs, e))
     (λ h. let r = from_map f xs y h in (r.0, in_later z xs r.0 r.1, r.2))
     (in_cons (f z) (map f xs) y c)
-
-pub no_some : {X : Type 0} (x : X) → None ≡ Some x → ⊥
-no_some x e = cc

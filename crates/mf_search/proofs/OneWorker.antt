@@ -2,6 +2,7 @@
 use Rattle.std.proofs.Common.{◌≡◌, ℕ, ◌<◌, ◌≤◌, ◌⊎◌, Bool, true, false, eqb, List, [], ◌∷◌, Option, Some, None, Contains, length, refl, sym, ap, ap₂, ◌∙◌, inl, inr, subst, arith}
 use Rattle.std.proofs.lemmas.Option.{same_Some}
 use Rattle.std.proofs.lemmas.List.{map_push}
+use Rattle.std.proofs.lemmas.Option.{none-some}
 use Rattle.mf_search.specs.declared.entry.Entry.{Entry}
 use Rattle.mf_search.specs.declared.entry.Entry.TheVariants.{Take, Done, Wide}
 use Rattle.mf_search.specs.Space.{Grown, LeadsOut, Space, IsListed, Leads}
@@ -9,7 +10,6 @@ use Rattle.mf_search.specs.World.{Opened, World, at, begin, took, next, after, M
 use Rattle.mf_search.specs.Greedy.{Follows, Greedy}
 use Rattle.mf_search.specs.Rebuilt.{states_of}
 use Rattle.mf_search.specs.Answers.{AllIdle, Ended}
-use Rattle.mf_search.proofs.Members.{no_some}
 use Rattle.mf_search.proofs.Sound.{IsStart, MadeByDone, Sound, put_some, put_none, next_grows, next_sound, begin_sound, after_grows, legal_sound}
 use Rattle.mf_search.proofs.Runs.{greedy_nil, greedy_push}
 use Rattle.mf_search.proofs.Rebuilding.{Within, within_itself, within_grows, AllDone, all_expanded, state_in, number_in, IsFound, found}
@@ -40,7 +40,7 @@ after_in_number sp budget workers w [] legal all = all
 after_in_number sp budget workers w (e ∷ entries) legal all = after_in_number sp budget workers (next sp w e) entries legal.1 (next_in_number sp budget workers w e legal.0 all)
 
 pub begin_in_number : {S : Type 0} (sp : Space S) (workers : ℕ) → InNumber workers (begin sp)
-begin_in_number sp workers v i h = absurd (no_some i h)
+begin_in_number sp workers v i h = absurd (none-some i h)
 
 -- In each legal history only the workers from 1 to its number have a state in expansion.
 pub legal_in_number : {S : Type 0} (sp : Space S) (budget workers : ℕ) (entries : List Entry) → Legal sp budget workers entries → InNumber workers (world sp entries)
@@ -52,14 +52,14 @@ all_idle {S} workers w all idle v = go (w.busy v) refl
   where
     go : (held : Option ℕ) → w.busy v ≡ held → held ≡ None
     go None e = refl
-    go (Some i) e = let r = all v i e in absurd (no_some i (sym (idle v r.0 r.1) ∙ e))
+    go (Some i) e = let r = all v i e in absurd (none-some i (sym (idle v r.0 r.1) ∙ e))
 
 -- A lone worker that may take has nothing in expansion, and nobody else has.
 lone_idle : {S : Type 0} (sp : Space S) (budget : ℕ) (w : World S) (worker i : ℕ) → InNumber 1 w → MayTake sp budget 1 w worker i → (v k : ℕ) → w.busy v ≡ Some k → ⊥
 lone_idle {S} sp budget w worker i all may v k h =
     let r = all v k h in let a = may.low in let b = may.high in
     let same : worker ≡ v = omega arith in
-    no_some k (sym may.idle ∙ ap w.busy same ∙ h)
+    none-some k (sym may.idle ∙ ap w.busy same ∙ h)
 
 not_both : {S : Type 0} (g : Grown S) (n : ℕ) → IsListed g → g ≡ LeadsOut n → ⊥
 not_both {S} g n h e = subst (IsListed {S = S}) e h

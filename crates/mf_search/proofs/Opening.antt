@@ -2,10 +2,11 @@
 use Rattle.std.proofs.Common.{◌≡◌, ℕ, zero, suc, ◌<◌, ◌≤◌, ◌⊎◌, ◌++◌, Bool, true, false, List, [], ◌∷◌, Option, Some, None, Contains, length, refl, sym, ap, ◌∙◌, inl, inr, ⊎_elim, subst, arith, le_refl}
 use Rattle.std.proofs.lemmas.Bool.{false≢true, or_cases, or_left, or_right, cases_lt}
 use Rattle.std.proofs.lemmas.List.{length_push, get_or_push, get_or_append_left}
+use Rattle.std.proofs.lemmas.Option.{none-some}
 use Rattle.mf_search.specs.declared.maker.Maker.TheVariants.{Start, Step}
 use Rattle.mf_search.specs.Space.{Child, Space}
 use Rattle.mf_search.specs.World.{Opened, WasOpened, at, known, pushed, open_child, open_all}
-use Rattle.mf_search.proofs.Members.{not_in_nil, in_cons, in_first, in_later, no_some}
+use Rattle.mf_search.proofs.Members.{not_in_nil, in_cons, in_first, in_later}
 
 pub known_opened : {S : Type 0} (sp : Space S) (os : List (Opened S)) (x : S) → known sp os x ≡ true → WasOpened sp os x
 known_opened sp [] x e = absurd (false≢true e)
@@ -112,7 +113,7 @@ opens_pushed {S} sp p c os false None e v = record {
   apart = λ h. h;
   valued = λ h. h;
   made = λ i low high. absurd (omega arith);
-  all = λ d u h k. let same : c ≡ d = only c d h in let none : sp.value d.state ≡ None = subst (λ (t : Child S). sp.value t.state ≡ None) same v in absurd (no_some u (sym none ∙ k));
+  all = λ d u h k. let same : c ≡ d = only c d h in let none : sp.value d.state ≡ None = subst (λ (t : Child S). sp.value t.state ≡ None) same v in absurd (none-some u (sym none ∙ k));
 }
 opens_pushed {S} sp p c os false (Some u) e v = record {
   extends = extends_push sp os new;

@@ -5,12 +5,13 @@ use Rattle.std.proofs.lemmas.List.{get_or-map, length-map}
 use Rattle.std.proofs.lemmas.List.Elements.{Contains-append_left, Contains-push, Contains-push_cases, Contains-get_or}
 use Rattle.std.proofs.lemmas.List.Quantifiers.{all_pairs_push}
 use Rattle.std.proofs.lemmas.Option.{same_Some}
+use Rattle.std.proofs.lemmas.Option.{none-some}
 use Rattle.mf_search.specs.declared.entry.Entry.{Entry}
 use Rattle.mf_search.specs.declared.entry.Entry.TheVariants.{Take, Done, Wide}
 use Rattle.mf_search.specs.declared.maker.Maker.TheVariants.{Start}
 use Rattle.mf_search.specs.Space.{Child, Space, children_of, IsListed}
 use Rattle.mf_search.specs.World.{Opened, Going, AtGoal, AtWide, World, AllDifferent, WasOpened, at, opened_first, begin, open_all, put, took, finished, next, after, MayTake, MayDone, MayWide, May, LegalFrom, Legal, world}
-use Rattle.mf_search.proofs.Members.{not_in_nil, no_some}
+use Rattle.mf_search.proofs.Members.{not_in_nil}
 use Rattle.mf_search.proofs.Opening.{Extends, extends_refl, extends_trans, extends_opened, Apart, Valued, MadeBy, Opens, opens_all}
 
 -- The state of number i was taken and done: it is no goal, and nobody has it in expansion.
@@ -69,7 +70,7 @@ pub put_none : (busy : ℕ → Option ℕ) (worker v i : ℕ) → put busy worke
 put_none busy worker v i e = go (eqb v worker) refl e
   where
     go : (b : Bool) → eqb v worker ≡ b → cond b None (busy v) ≡ Some i → (v ≡ worker → ⊥) × (busy v ≡ Some i)
-    go true t h = absurd (no_some i h)
+    go true t h = absurd (none-some i h)
     go false t h = (eqb-false v worker t, h)
 
 pub put_same : (busy : ℕ → Option ℕ) (worker : ℕ) (held : Option ℕ) → put busy worker held worker ≡ held
@@ -161,7 +162,7 @@ sound_busy {S} sp budget workers w worker i s may above = record {
     back : (k : ℕ) → IsDone sp (took false w worker i) k → IsDone sp w k
     back k d = record {
       taken = ⊎_elim (λ h. h) (λ (e : i ≡ k). absurd (d.at_rest worker (put_same w.busy worker (Some i) ∙ ap (λ t. Some t) e))) (Contains-push_cases w.taken i k d.taken);
-      at_rest = λ v h. d.at_rest v (put_other w.busy worker (Some i) v (λ e. no_some k (sym may.idle ∙ ap w.busy (sym e) ∙ h)) ∙ h);
+      at_rest = λ v h. d.at_rest v (put_other w.busy worker (Some i) v (λ e. none-some k (sym may.idle ∙ ap w.busy (sym e) ∙ h)) ∙ h);
       no_goal = d.no_goal;
     }
 
@@ -293,8 +294,8 @@ sound_first {S} sp value e = record {
   start_opened = λ v h. opened value e v h;
   in_range = λ i h. absurd (not_in_nil i h);
   once = λ i j d low h. absurd (omega arith);
-  busy_taken = λ v i h. absurd (no_some i h);
-  busy_alone = λ u v i h k. absurd (no_some i h);
+  busy_taken = λ v i h. absurd (none-some i h);
+  busy_alone = λ u v i h k. absurd (none-some i h);
   done_listed = λ i d. absurd (not_in_nil i d.taken);
   done_opened = λ i c v d h k. absurd (not_in_nil i d.taken);
   no_goal = λ h i k. absurd (not_in_nil i k);
@@ -316,7 +317,7 @@ sound_first {S} sp value e = record {
     made (Some v) (suc i) h = absurd (omega arith)
 
     opened : (v : Option ℕ) → sp.value sp.start ≡ v → (u : ℕ) → sp.value sp.start ≡ Some u → WasOpened sp (opened_first sp v) sp.start
-    opened None e u h = absurd (no_some u (sym e ∙ h))
+    opened None e u h = absurd (none-some u (sym e ∙ h))
     opened (Some v) e u h = (0, omega arith, refl)
 
 pub begin_sound : {S : Type 0} (sp : Space S) → Sound sp (begin sp)

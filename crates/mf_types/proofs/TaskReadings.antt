@@ -1,7 +1,7 @@
 -- The reading of a task gives exactly the task that a domain and a problem mean.
 use Rattle.std.proofs.Common.{◌≡◌, ℕ, ◌≤◌, Bool, true, false, ◌&&◌, if◌then◌else◌, nat_le, Option, Some, None, List, [], length, refl, sym, ap, ◌∙◌, subst, arith}
 use Rattle.std.proofs.lemmas.Bool.Decides.{nat_tests}
-use Rattle.mf_model.proofs.Choices.{some_same}
+use Rattle.std.proofs.lemmas.Option.{same_Some}
 use Rattle.mf_model.specs.declared.form.Domain.{Domain}
 use Rattle.mf_model.specs.declared.form.Problem.{Problem}
 use Rattle.mf_model.specs.declared.task.TypeName.{TypeName}
@@ -98,7 +98,7 @@ module _ (declared : Declared) (d : Domain) (p : Problem) where
         goal = five.1;
         metric = four.1;
       } in
-      subst (λ (t : TypedTask). IsTaskFor declared d p t) (some_same (task_with declared one.0 two.0 three.0 four.0 five.0) task five.2) here
+      subst (λ (t : TypedTask). IsTaskFor declared d p t) (same_Some (task_with declared one.0 two.0 three.0 four.0 five.0) task five.2) here
 
   task_is : (task : TypedTask) → IsTaskFor declared d p task → task_with declared task.actions task.atoms task.values task.metric task.goal ≡ task
   task_is task h =
@@ -123,4 +123,4 @@ module _ (declared : Declared) (d : Domain) (p : Problem) where
       (ap Some (task_is task h))))))
 
   pub one_task : (one other : TypedTask) → IsTaskFor declared d p one → IsTaskFor declared d p other → one ≡ other
-  one_task one other h k = some_same one other (sym (task_complete one h) ∙ task_complete other k)
+  one_task one other h k = same_Some one other (sym (task_complete one h) ∙ task_complete other k)

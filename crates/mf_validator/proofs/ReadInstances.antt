@@ -7,7 +7,7 @@ use Rattle.std.proofs.Math.ListN.{get_or-map}
 use Rattle.std.proofs.lemmas.List.{append-nil, length-map}
 use Rattle.std.proofs.lemmas.List.Elements.{All-nil, All-cons, All-append, Contains-append_left, Contains-append_right}
 use Rattle.std.proofs.lemmas.List.Quantifiers.{position-Some}
-use Rattle.mf_model.proofs.Choices.{some_same}
+use Rattle.std.proofs.lemmas.Option.{same_Some}
 use Rattle.mf_model.specs.declared.state.Instance.{Instance}
 use Rattle.mf_model.specs.declared.task.Action.{Action}
 use Rattle.mf_model.specs.declared.task.TypedTask.{TypedTask}
@@ -60,7 +60,7 @@ having-it types n (suc k) (own ∷ kinds) h =
 fits_by : (task : TypedTask) (types : List ℕ) (meeting : Bool) (number object : ℕ) → meets types (slice_index_or (kinds_of task) number []) ≡ meeting → (if meeting then Some number else None) ≡ Some object
     → Contains (having types 0 (kinds_of task)) object
 fits_by task types true number object h e =
-    let same : 0 + number ≡ object = omega (arith, some_same number object e) in
+    let same : 0 + number ≡ object = omega (arith, same_Some number object e) in
     subst (λ n. Contains (having types 0 (kinds_of task)) n) same (having-it types 0 number (kinds_of task) h)
 fits_by task types false number object h e = cc
 

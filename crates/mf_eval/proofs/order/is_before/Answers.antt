@@ -1,5 +1,5 @@
 use Rattle.std.proofs.Common.{◌∙◌, arith}
-use Rattle.mf_eval.proofs.Numbers.{numbers_before-all}
+use Rattle.mf_model.proofs.Numbers.{numbers_before-all}
 use Rattle.mf_eval.proofs.order.is_before.Goals as goal
 
 pub returns : goal.returns
