@@ -1,25 +1,50 @@
 ghost use Rattle.mf_eval.specs.Scope.{action_scope_of, effect_scope_of, scope_of};
-ghost use Rattle.std.specs.Prelude.{◌≡◌, IfOk, [], ◌∷◌, Some, slice_get};
+ghost use Rattle.std.specs.Prelude.{◌≡◌, IfOk, [], ◌∷◌, Some, length, slice_get};
 
 use crate::{Truth, apply, holds, start_state, value};
 use mf_fraction::Frac;
 use mf_model::{
-    Action, Cell, Cond, Effect, Expr, Instance, List, Op, PlainState, Relation, Symbol, Text,
+    Action, Atom, Cell, Cond, Effect, Expr, Instance, List, Op, PlainState, Relation, Term, Text,
     TypedTask, Valued,
 };
+use sqlite_items::Items;
 use std::alloc::Global;
 use std::test::Fail;
 
-fn one<T: Drop>(alloc: Global, item: T) -> Result<List<T>, Fail>
-    ensures { IfOk result (λ list. list ≡ item ∷ []) }
-{
-    let mut list = List::new(alloc);
-    list.push(item)?;
-    Ok(list)
+// Predicate 0 holds of two places that a road joins, and predicate 1 of the place that was reached. Function 0 is the
+// fuel, and function 1 the height of a place. The declarations of a task are left out: no function here reads them.
+
+fn atom(alloc: Global, predicate: u16, objects: &[u16]) -> Result<Atom, Fail> {
+    Ok(Atom {
+        predicate,
+        objects: List::from_slice(alloc, objects)?,
+    })
 }
 
-fn whole(number: i64) -> Result<Frac, Fail> {
-    Ok(Frac::whole(number)?)
+fn valued(alloc: Global, function: u16, objects: &[u16], value: i64) -> Result<Valued, Fail> {
+    Ok(Valued {
+        cell: Cell {
+            function,
+            objects: List::from_slice(alloc, objects)?,
+        },
+        value: Frac::whole(value)?,
+    })
+}
+
+// The state with this place and this fuel.
+fn state(alloc: Global, place: u16, fuel: i64) -> Result<PlainState, Fail> {
+    Ok(PlainState {
+        atoms: List::from_vec(vec![in alloc;
+            atom(alloc, 0, &[0, 1])?,
+            atom(alloc, 0, &[1, 0])?,
+            atom(alloc, 1, &[place])?,
+        ]?),
+        values: List::from_vec(vec![in alloc;
+            valued(alloc, 0, &[], fuel)?,
+            valued(alloc, 1, &[0], 3)?,
+            valued(alloc, 1, &[1], 7)?,
+        ]?),
+    })
 }
 
 fn fuel(alloc: Global) -> Expr {
@@ -36,34 +61,52 @@ fn some_fuel(alloc: Global) -> Result<Cond, Fail>
     Ok(Cond::Compare {
         relation: Relation::AtLeast,
         left: fuel(alloc),
-        right: Expr::Number(whole(1)?),
+        right: Expr::Number(Frac::whole(1)?),
     })
 }
 
-fn less_fuel(alloc: Global) -> Result<Effect, Fail>
+// From the first place of the binding to the second, for 1 of the fuel.
+fn moved(alloc: Global) -> Result<Effect, Fail>
     ensures { IfOk result (λ effect. effect_scope_of effect ≡ 0) }
 {
-    Ok(Effect::Change {
+    let mut parts = Items::new(alloc);
+    parts.push(Effect::Add {
+        predicate: 1,
+        terms: List::from_slice(alloc, &[Term::Variable(1)])?,
+    })?;
+    parts.push(Effect::Delete {
+        predicate: 1,
+        terms: List::from_slice(alloc, &[Term::Variable(0)])?,
+    })?;
+    parts.push(Effect::Change {
         op: Op::Decrease,
         function: 0,
         terms: List::new(alloc),
-        value: Expr::Number(whole(1)?),
-    })
+        value: Expr::Number(Frac::whole(1)?),
+    })?;
+    Ok(Effect::Group { parts })
 }
 
-// Takes 1 from the fuel.
-fn burn(alloc: Global) -> Result<Action, Fail>
+fn go(alloc: Global) -> Result<Action, Fail>
     ensures { IfOk result (λ action. action_scope_of (Some action) ≡ 0) }
 {
     Ok(Action {
-        name: Text::from_slice(alloc, b"burn")?,
+        name: Text::from_slice(alloc, b"go")?,
         parameters: List::new(alloc),
         condition: some_fuel(alloc)?,
-        effect: less_fuel(alloc)?,
+        effect: moved(alloc)?,
     })
 }
 
-// A fuel of 2, and one action that takes 1 from it.
+fn one<T: Drop>(alloc: Global, item: T) -> Result<List<T>, Fail>
+    ensures { IfOk result (λ list. list ≡ item ∷ []) }
+{
+    let mut list = List::new(alloc);
+    list.push(item)?;
+    Ok(list)
+}
+
+// The atoms and values of a start are in no order, and one atom is there twice.
 fn task(alloc: Global) -> Result<TypedTask, Fail>
     ensures objects { IfOk result (λ task. task.objects ≡ []) }
     ensures actions { IfOk result (λ task. action_scope_of (slice_get task.actions 0) ≡ 0) }
@@ -73,56 +116,51 @@ fn task(alloc: Global) -> Result<TypedTask, Fail>
         types: List::new(alloc),
         objects: List::new(alloc),
         predicates: List::new(alloc),
-        functions: one(
-            alloc,
-            Symbol {
-                name: Text::from_slice(alloc, b"fuel")?,
-                parameters: List::new(alloc),
-            },
-        )?,
-        actions: one(alloc, burn(alloc)?)?,
-        atoms: List::new(alloc),
-        values: one(
-            alloc,
-            Valued {
-                cell: Cell {
-                    function: 0,
-                    objects: List::new(alloc),
-                },
-                value: whole(2)?,
-            },
-        )?,
+        functions: List::new(alloc),
+        actions: one(alloc, go(alloc)?)?,
+        atoms: List::from_vec(vec![in alloc;
+            atom(alloc, 1, &[0])?,
+            atom(alloc, 0, &[1, 0])?,
+            atom(alloc, 1, &[0])?,
+            atom(alloc, 0, &[0, 1])?,
+        ]?),
+        values: List::from_vec(vec![in alloc;
+            valued(alloc, 1, &[1], 7)?,
+            valued(alloc, 1, &[0], 3)?,
+            valued(alloc, 0, &[], 2)?,
+        ]?),
         goal: some_fuel(alloc)?,
         metric: None,
     })
 }
 
-fn burned(alloc: Global, task: &TypedTask) -> Result<PlainState, Fail>
-    requires objects { task.now.objects ≡ [] }
-    requires actions { action_scope_of (slice_get task.now.actions 0) ≡ 0 }
-{
-    let instance = Instance {
-        action: 0,
-        objects: List::new(alloc),
-    };
-    Ok(apply(alloc, task, &instance, &start_state(alloc, task)?)?)
-}
-
 #[test]
-fn fuel_is_burned(rt: HostRuntime) -> Result<(), Fail> {
+fn the_start_is_in_order(rt: HostRuntime) -> Result<(), Fail> {
     let alloc = rt.alloc();
-    let task = task(alloc)?;
-    let state = burned(alloc, &task)?;
-    let left = value(&task, &fuel(alloc), &[], &state, 1)?;
-    assert!(rt; left == Some(whole(1)?));
+    let start = start_state(alloc, &task(alloc)?)?;
+    assert!(rt; start == state(alloc, 0, 2)?);
     Ok(())
 }
 
 #[test]
-fn fuel_is_there(rt: HostRuntime) -> Result<(), Fail> {
+fn an_action_makes_a_state(rt: HostRuntime) -> Result<(), Fail> {
+    let alloc = rt.alloc();
+    let instance = Instance {
+        action: 0,
+        objects: List::from_slice(alloc, &[0, 1])?,
+    };
+    let next = apply(alloc, &task(alloc)?, &instance, &state(alloc, 0, 2)?)?;
+    assert!(rt; next == state(alloc, 1, 1)?);
+    Ok(())
+}
+
+#[test]
+fn the_fuel_is_read(rt: HostRuntime) -> Result<(), Fail> {
     let alloc = rt.alloc();
     let task = task(alloc)?;
-    let state = start_state(alloc, &task)?;
+    let state = state(alloc, 0, 2)?;
+    let left = value(&task, &fuel(alloc), &[], &state, 1)?;
+    assert!(rt; left == Some(Frac::whole(2)?));
     assert!(rt; holds(&task, &task.goal, &[], &state)? == Truth::Yes);
     Ok(())
 }
