@@ -1,5 +1,5 @@
 ghost use Rattle.mf_eval.specs.Scope.{action_scope_of, effect_scope_of, scope_of};
-ghost use Rattle.std.specs.Prelude.{◌≡◌, IfOk, [], ◌∷◌, Some, length, slice_get};
+ghost use Rattle.std.specs.Prelude.{◌≡◌, IfOk, [], ◌∷◌, Some, slice_get};
 
 use crate::{Truth, apply, holds, start_state, value};
 use mf_fraction::Frac;
