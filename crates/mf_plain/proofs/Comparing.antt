@@ -1,11 +1,11 @@
 -- Lists of numbers compared from their fronts.
-use Rattle.std.proofs.Common.{◌≡◌, ℕ, ◌+◌, ◌<◌, ◌≤◌, ◌&&◌, false, nat_eq, nat_lt, List, [], length, get_or, drop, refl, sym, ap, ◌∙◌, ⊎_elim, arith}
-use Rattle.std.proofs.lemmas.Bool.{cases_lt, lt-ltb, le-ltb, eq-eqb, ne_eqb}
+use Rattle.std.proofs.Common.{◌≡◌, ℕ, ◌+◌, ◌<◌, ◌≤◌, ◌&&◌, false, nat_eq, List, [], length, get_or, drop, refl, sym, ap, ◌∙◌, ⊎_elim, arith}
+use Rattle.std.proofs.lemmas.Bool.{cases_lt, eq-eqb, ne_eqb}
 use Rattle.std.proofs.lemmas.Bool.{and_left}
 use Rattle.std.proofs.lemmas.List.{drop_more, drop_all, get_or-map, length-map}
 use Rattle.mf_model.specs.declared.task.Term.{Term}
 use Rattle.mf_model.specs.Views.{object_of, objects_of}
-use Rattle.mf_model.specs.States.{same_numbers, numbers_before}
+use Rattle.mf_model.specs.States.{same_numbers}
 
 pub same_step : (xs ys : List ℕ) (i : ℕ) → i < length xs → i < length ys → same_numbers (drop i xs) (drop i ys) ≡ (nat_eq (get_or xs i 0) (get_or ys i 0) && same_numbers (drop (i + 1) xs) (drop (i + 1) ys))
 same_step xs ys i h k = rw (drop_more xs i 0 h, drop_more ys i 0 k) refl
