@@ -10,7 +10,7 @@ abbrev pub behind_front : List ℕ → Option (List ℕ) → Option (List ℕ)
 behind_front front (Some objects) = Some (front ++ objects)
 behind_front front None = None
 
-pub one_behind : Option ℕ → Option (List ℕ) → Option (List ℕ)
+unfoldable pub one_behind : Option ℕ → Option (List ℕ) → Option (List ℕ)
 one_behind found rest = found >>= λ object. rest >>= λ objects. Some (object ∷ objects)
 
 nothing : (found : Option ℕ) → one_behind found None ≡ None
