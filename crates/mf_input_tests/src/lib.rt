@@ -12,6 +12,8 @@ mod meanings;
 #[cfg(test)]
 mod names;
 #[cfg(test)]
+mod resolved;
+#[cfg(test)]
 mod sheet;
 #[cfg(test)]
 mod shown;
