@@ -1,9 +1,7 @@
-//! Plans of typed, numeric, conditional and quantified tasks, as the whole program judges them, tasks that it
-//! searches, and whole histories of searches.
+//! Plans of typed, numeric, conditional and quantified tasks, as the whole program judges them, and tasks that it
+//! searches.
 #![tactic(auto)]
 
-#[cfg(test)]
-mod direct;
 #[cfg(test)]
 mod judged;
 #[cfg(test)]
