@@ -1,7 +1,12 @@
-ghost use Rattle.std.specs.Prelude.{◌≡◌, IfOk, []};
+ghost use Rattle.mf_model.specs.Objects.{HaveTopType};
+ghost use Rattle.mf_plain.specs.SearchTask.{IsSearchTask};
+ghost use Rattle.mf_plain.specs.Searches.{IsSearched};
+ghost use Rattle.std.specs.Prelude.{◌≡◌, ℕ, IfOk, []};
 
 use mf_model::{Action, Atom, Cond, Effect, Instance, List, PlainState, Symbol, Text, TypedTask};
-use mf_plain::{Entry, History, Maker, Status, TraceFault, is_searchable, plan_of, search};
+use mf_plain::{
+    Entry, History, Maker, Searched, Status, TraceFault, is_searchable, plan_of, search,
+};
 use std::alloc::Global;
 use std::test::Fail;
 
@@ -121,16 +126,26 @@ fn steps(alloc: Global) -> Result<List<Instance>, Fail> {
     Ok(List::from_vec(vec![in alloc; light]?))
 }
 
+// Whether the search found out that the lamp is lit, in two states, and its plan is to light it.
+fn is_lit(alloc: Global, task: &TypedTask, searched: &Searched) -> Result<bool, Fail>
+    requires searchable { IsSearchTask task.now }
+    requires objects { HaveTopType task.now }
+    requires searched { (budget : ℕ) × IsSearched task.now budget searched.now }
+{
+    let entries = [take(0), done(0), take(1)];
+    let kept = is_kept(alloc, &searched.history, &[1, 0], &entries)?;
+    let plan = plan_of(alloc, task, searched)?;
+    let lit = steps(alloc)?;
+    Ok(kept && searched.status == Status::Plan { state: 1 } && plan == lit)
+}
+
 #[test]
 fn a_lamp_is_lit(rt: HostRuntime) -> Result<(), Fail> {
     let alloc = rt.alloc();
     let task = task(alloc, LIT)?;
     assert!(rt; is_searchable(&task));
     let searched = search(alloc, &task, 9)?;
-    assert!(rt; searched.status == Status::Plan { state: 1 });
-    let entries = [take(0), done(0), take(1)];
-    assert!(rt; is_kept(alloc, &searched.history, &[1, 0], &entries)?);
-    assert!(rt; plan_of(alloc, &task, &searched)? == steps(alloc)?);
+    assert!(rt; is_lit(alloc, &task, &searched)?);
     Ok(())
 }
 
