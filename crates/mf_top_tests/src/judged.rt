@@ -1,6 +1,9 @@
+ghost use Rattle.mf_top.specs.Words.{AsksJudgement, IsRequest};
+ghost use Rattle.std.specs.Prelude.{IfOk};
+
 use crate::tasks;
 use mf_io::{List, MemoryFolder, MemorySink, Text};
-use mf_top::run;
+use mf_top::{Request, run, validate};
 use std::alloc::Global;
 use std::test::Fail;
 
@@ -129,5 +132,34 @@ fn an_atom_deleted_and_added_and_a_wide_step(rt: HostRuntime) -> Result<(), Fail
     };
     assert!(rt; is_judged(alloc, &twice, 0, b"valid\n")?);
     assert!(rt; is_judged(alloc, &grow, 7, b"width: step 1\n")?);
+    Ok(())
+}
+
+// A request to judge the plan.
+fn request(alloc: Global) -> Result<Request, Fail>
+    ensures request { IfOk result IsRequest }
+    ensures judgement { IfOk result AsksJudgement }
+{
+    Ok(Request::Validate {
+        domain: mf_model::Text::from_slice(alloc, "domain.pddl".as_bytes())?,
+        problem: mf_model::Text::from_slice(alloc, "problem.pddl".as_bytes())?,
+        plan: mf_model::Text::from_slice(alloc, "plan.txt".as_bytes())?,
+    })
+}
+
+#[test]
+fn a_request_is_judged(rt: HostRuntime) -> Result<(), Fail> {
+    let alloc = rt.alloc();
+    let case = Case {
+        domain: tasks::BURN_AT_LEAST,
+        problem: tasks::BURN_1,
+        plan: "(burn)\n",
+    };
+    let mut files = folder(alloc, &case)?;
+    let mut out = MemorySink::new(alloc, 1000, List::new(alloc));
+    let mut err = MemorySink::new(alloc, 1000, List::new(alloc));
+    let ended = validate(alloc, &request(alloc)?, &mut files, &mut out, &mut err);
+    assert!(rt; ended.status == 1);
+    assert!(rt; out.bytes() == b"goal fails\n".as_slice());
     Ok(())
 }

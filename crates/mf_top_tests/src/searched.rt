@@ -1,5 +1,8 @@
+ghost use Rattle.mf_top.specs.Words.{AsksPlan, IsRequest};
+ghost use Rattle.std.specs.Prelude.{IfOk};
+
 use mf_io::{List, MemoryFolder, MemorySink, Text};
-use mf_top::run;
+use mf_top::{Request, plan_one, run};
 use std::alloc::Global;
 use std::test::Fail;
 
@@ -68,5 +71,29 @@ fn objects_of_types_are_searched(rt: HostRuntime) -> Result<(), Fail> {
 fn a_room_is_never_held(rt: HostRuntime) -> Result<(), Fail> {
     let alloc = rt.alloc();
     assert!(rt; is_answered(alloc, "(holding rooma)", 1, b"no plan\n")?);
+    Ok(())
+}
+
+// A request for a plan of the rooms.
+fn request(alloc: Global) -> Result<Request, Fail>
+    ensures request { IfOk result IsRequest }
+    ensures plan { IfOk result AsksPlan }
+{
+    Ok(Request::Plan {
+        domain: mf_model::Text::from_slice(alloc, "domain.pddl".as_bytes())?,
+        problem: mf_model::Text::from_slice(alloc, "problem.pddl".as_bytes())?,
+        budget: 9,
+    })
+}
+
+#[test]
+fn a_request_is_searched(rt: HostRuntime) -> Result<(), Fail> {
+    let alloc = rt.alloc();
+    let mut files = folder(alloc, "(at-robot roomb)")?;
+    let mut out = MemorySink::new(alloc, 1000, List::new(alloc));
+    let mut err = MemorySink::new(alloc, 1000, List::new(alloc));
+    let ended = plan_one(alloc, &request(alloc)?, &mut files, &mut out, &mut err);
+    assert!(rt; ended.status == 0);
+    assert!(rt; out.bytes() == b"(move rooma roomb)\n; steps 1\n".as_slice());
     Ok(())
 }
