@@ -176,7 +176,7 @@ width_said domain problem source ob oa task plan (TooWide step) writes instances
   plan = plan;
   step = step;
   writes = writes;
-  wide = verdict-wide task plan step instances judged;
+  wide = verdict-wide task plan step judged;
   printed = out;
 }
 width_said domain problem source ob oa task plan (Said (verdict.Valid metric)) writes instances judged seven out = absurd (omega arith)

@@ -60,12 +60,19 @@ plan_ends : (task : TypedTask) (state : PlainState) (steps : List Instance) → 
 plan_ends task state [] valid = valid
 plan_ends task state (step ∷ steps) valid = plan_ends task (next_state task state step) steps valid.2
 
+-- all steps are applied, the goal holds, and no value at the end is too wide
+ends_well : (task : TypedTask) (plan : List Instance) → AreApplied task (start_of task) plan
+    → goal_is_wide task (last_state task plan) ≡ false → is_goal task (last_state task plan) ≡ true → metric_is_wide task.metric (length plan) (last_state task plan) ≡ false
+    → verdict_of task plan ≡ Ok (verdict.Valid (reported_of task.metric (length plan) (last_state task plan)))
+ends_well task plan applied goal_fits goal metric_fits =
+    at_end task plan applied
+    ∙ if_false (goal_is_wide task (last_state task plan)) _ _ goal_fits
+    ∙ if_true (is_goal task (last_state task plan)) _ _ goal
+    ∙ if_false (metric_is_wide task.metric (length plan) (last_state task plan)) _ _ metric_fits
+
 valid-verdict : (task : TypedTask) (plan : List Instance) (metric : Reported) → IsValid task plan metric → verdict_of task plan ≡ Ok (verdict.Valid metric)
 valid-verdict task plan metric valid =
-    at_end task plan valid.applied
-    ∙ if_false (goal_is_wide task (last_state task plan)) _ _ valid.goal_fits
-    ∙ if_true (is_goal task (last_state task plan)) _ _ (plan_ends task (start_of task) plan valid.is_plan)
-    ∙ if_false (metric_is_wide task.metric (length plan) (last_state task plan)) _ _ valid.metric_fits
+    ends_well task plan valid.applied valid.goal_fits (plan_ends task (start_of task) plan valid.is_plan) valid.metric_fits
     ∙ ap (λ r. Ok (verdict.Valid r)) (sym valid.metric_is)
 
 misses-verdict : (task : TypedTask) (plan : List Instance) → MissesGoal task plan → verdict_of task plan ≡ Ok verdict.GoalFails
@@ -158,22 +165,29 @@ valid_from task state [] within applied goal = goal
 valid_from task state (step ∷ steps) within applied goal =
     (All-head (Contains (instances_of task)) step steps within, applied.0, valid_from task (next_state task state step) steps (All-tail (Contains (instances_of task)) step steps within) applied.2 goal)
 
+-- what the verdict says of a list of steps is so where they are instances
 data Found (task : TypedTask) (plan : List Instance) : Type 0 where
-  Said : (said : Verdict) → Says task plan said → Found task plan
+  Said : (said : Verdict) → verdict_of task plan ≡ Ok said → (All (Contains (instances_of task)) plan → Says task plan said) → Found task plan
   Wide : (number : ℕ) → IsWideAt task plan number → Found task plan
 
-ended : (task : TypedTask) (plan : List Instance) → All (Contains (instances_of task)) plan → AreApplied task (start_of task) plan → (unread goal overflows : Bool)
+ended : (task : TypedTask) (plan : List Instance) → AreApplied task (start_of task) plan → (unread goal overflows : Bool)
     → goal_is_wide task (last_state task plan) ≡ unread → is_goal task (last_state task plan) ≡ goal → metric_is_wide task.metric (length plan) (last_state task plan) ≡ overflows → Found task plan
-ended task plan within applied true goal overflows u g o = Wide (length plan + 1) (inr (record { counted = refl; applied = applied; wide = inl u }))
-ended task plan within applied false false overflows u g o = Said verdict.GoalFails (record { applied = applied; goal_fits = u; misses = g })
-ended task plan within applied false true true u g o = Wide (length plan + 1) (inr (record { counted = refl; applied = applied; wide = inr (u, g, o) }))
-ended task plan within applied false true false u g o = Said (verdict.Valid (reported_of task.metric (length plan) (last_state task plan)))
-    (record { is_plan = valid_from task (start_of task) plan within applied g; applied = applied; goal_fits = u; metric_fits = o; metric_is = refl })
+ended task plan applied true goal overflows u g o = Wide (length plan + 1) (inr (record { counted = refl; applied = applied; wide = inl u }))
+ended task plan applied false false overflows u g o =
+    let misses : MissesGoal task plan = record { applied = applied; goal_fits = u; misses = g } in
+    Said verdict.GoalFails (misses-verdict task plan misses) (λ within. misses)
+ended task plan applied false true true u g o = Wide (length plan + 1) (inr (record { counted = refl; applied = applied; wide = inr (u, g, o) }))
+ended task plan applied false true false u g o = Said (verdict.Valid (reported_of task.metric (length plan) (last_state task plan)))
+    (ends_well task plan applied u g o)
+    (λ within. record { is_plan = valid_from task (start_of task) plan within applied g; applied = applied; goal_fits = u; metric_fits = o; metric_is = refl })
 
-found_by : (task : TypedTask) (plan : List Instance) → All (Contains (instances_of task)) plan → Walked task (start_of task) plan → Found task plan
-found_by task plan within (Through applied) = ended task plan within applied (goal_is_wide task (last_state task plan)) (is_goal task (last_state task plan)) (metric_is_wide task.metric (length plan) (last_state task plan)) refl refl refl
-found_by task plan within (FailsAt number why stops) = Said (verdict.StepFails number why) stops
-found_by task plan within (WideAt number stops) = Wide number (inl stops)
+found_by : (task : TypedTask) (plan : List Instance) → Walked task (start_of task) plan → Found task plan
+found_by task plan (Through applied) = ended task plan applied (goal_is_wide task (last_state task plan)) (is_goal task (last_state task plan)) (metric_is_wide task.metric (length plan) (last_state task plan)) refl refl refl
+found_by task plan (FailsAt number why stops) = Said (verdict.StepFails number why) (says-verdict task plan (verdict.StepFails number why) stops) (λ within. stops)
+found_by task plan (WideAt number stops) = Wide number (inl stops)
+
+found : (task : TypedTask) (plan : List Instance) → Found task plan
+found task plan = found_by task plan (walked task (start_of task) plan)
 
 -- ---- the verdict is so of the plan
 
@@ -186,19 +200,19 @@ same_place judged number other d e = cc
 not_both : (judged : Result Verdict JudgeFault) (said : Verdict) (number : ℕ) → judged ≡ Ok said → judged ≡ Err (fault.Wide number) → ⊥
 not_both judged said number d e = cc
 
-verdict_by : (task : TypedTask) (plan : List Instance) (said : Verdict) → verdict_of task plan ≡ Ok said → Found task plan → Says task plan said
-verdict_by task plan said e (Said other says) = subst (λ v. Says task plan v) (same_verdict (verdict_of task plan) other said (says-verdict task plan other says) e) says
-verdict_by task plan said e (Wide number wide) = absurd (not_both (verdict_of task plan) said number e (wide-verdict task plan number wide))
+verdict_by : (task : TypedTask) (plan : List Instance) (said : Verdict) → All (Contains (instances_of task)) plan → verdict_of task plan ≡ Ok said → Found task plan → Says task plan said
+verdict_by task plan said within e (Said other is says) = subst (λ v. Says task plan v) (same_verdict (verdict_of task plan) other said is e) (says within)
+verdict_by task plan said within e (Wide number wide) = absurd (not_both (verdict_of task plan) said number e (wide-verdict task plan number wide))
 
 pub verdict-says : (task : TypedTask) (plan : List Instance) (said : Verdict) → All (Contains (instances_of task)) plan → verdict_of task plan ≡ Ok said → Says task plan said
-verdict-says task plan said within e = verdict_by task plan said e (found_by task plan within (walked task (start_of task) plan))
+verdict-says task plan said within e = verdict_by task plan said within e (found task plan)
 
 wide_by : (task : TypedTask) (plan : List Instance) (number : ℕ) → verdict_of task plan ≡ Err (fault.Wide number) → Found task plan → IsWideAt task plan number
-wide_by task plan number e (Said said says) = absurd (not_both (verdict_of task plan) said number (says-verdict task plan said says) e)
+wide_by task plan number e (Said said is says) = absurd (not_both (verdict_of task plan) said number is e)
 wide_by task plan number e (Wide other wide) = subst (λ n. IsWideAt task plan n) (same_place (verdict_of task plan) other number (wide-verdict task plan other wide) e) wide
 
-pub verdict-wide : (task : TypedTask) (plan : List Instance) (number : ℕ) → All (Contains (instances_of task)) plan → verdict_of task plan ≡ Err (fault.Wide number) → IsWideAt task plan number
-verdict-wide task plan number within e = wide_by task plan number e (found_by task plan within (walked task (start_of task) plan))
+pub verdict-wide : (task : TypedTask) (plan : List Instance) (number : ℕ) → verdict_of task plan ≡ Err (fault.Wide number) → IsWideAt task plan number
+verdict-wide task plan number e = wide_by task plan number e (found task plan)
 
 -- ---- a plan that is nowhere too wide is valid
 

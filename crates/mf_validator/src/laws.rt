@@ -20,7 +20,7 @@ pub fn verdicts_are_exact()
 /// A list of instances is too wide at a step, or behind the last one, exactly where a value does not fit
 /// that the step, or the end, needs.
 pub fn width_is_exact()
-    ensures { (task : TypedTask) (plan : List Instance) (step : ℕ) → All (Contains (instances_of task)) plan
+    ensures { (task : TypedTask) (plan : List Instance) (step : ℕ)
         → (verdict_of task plan ≡ Err (fault.Wide step)) ↔ IsWideAt task plan step }
 {}
 

@@ -25,4 +25,4 @@ pub returns-clause-wide : goal.returns-clause-wide
 returns-clause-wide c = λ step e.
     let task = c.args.task.now in
     let plan = c.args.plan.now in
-    verdict-wide task plan step c.requires.steps (given-wide (verdict_of task plan) c.walk.result step c.walk.ensures e)
+    verdict-wide task plan step (given-wide (verdict_of task plan) c.walk.result step c.walk.ensures e)
