@@ -1,9 +1,9 @@
-use crate::{List, Text};
+use crate::{List, SharedList, Text};
 use mf_fraction::Frac;
 use sqlite_items::{Boxed, Items};
 
-/// Numbers of types, the declared types of one object or parameter.
-pub type Types = List<u16>;
+/// Numbers of types, the declared types of one object or parameter. Those of a group share one list.
+pub type Types = SharedList<u16>;
 
 /// A place in the binding (parameters first, then quantified variables from the outside in), or an object.
 #[derive(Clone, Copy, Debug, PartialEq, Eq)]

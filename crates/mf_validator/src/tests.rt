@@ -5,7 +5,8 @@ ghost use Rattle.std.specs.Prelude.{◌≡◌, ◌+◌, ◌≤◌, [], ◌∷◌
 use crate::{PlanFault, Reported, Verdict, Why, judge, read_plan};
 use mf_fraction::Frac;
 use mf_model::{
-    Action, Atom, Cond, Effect, Expr, List, Metric, Object, Symbol, Term, Text, TypeName, TypedTask,
+    Action, Atom, Cond, Effect, Expr, List, Metric, Object, SharedList, Symbol, Term, Text,
+    TypeName, TypedTask, Types,
 };
 use std::alloc::Global;
 use std::test::Fail;
@@ -29,6 +30,11 @@ fn two<T: Drop>(alloc: Global, first: T, second: T) -> Result<List<T>, Fail>
     list.push(first)?;
     list.push(second)?;
     Ok(list)
+}
+
+// The types of what is a place.
+fn place(alloc: Global) -> Result<Types, Fail> {
+    Ok(SharedList::from_list(List::from_slice(alloc, &[1])?)?)
 }
 
 fn at(alloc: Global, place: Term) -> Result<Cond, Fail>
@@ -55,11 +61,7 @@ fn go(alloc: Global) -> Result<Action, Fail>
 {
     Ok(Action {
         name: text(alloc, "go")?,
-        parameters: two(
-            alloc,
-            List::from_slice(alloc, &[1])?,
-            List::from_slice(alloc, &[1])?,
-        )?,
+        parameters: two(alloc, place(alloc)?, place(alloc)?)?,
         condition: at(alloc, Term::Variable(0))?,
         effect: arrive(alloc)?,
     })
@@ -68,7 +70,7 @@ fn go(alloc: Global) -> Result<Action, Fail>
 fn object(alloc: Global, name: &str) -> Result<Object, Fail> {
     Ok(Object {
         name: text(alloc, name)?,
-        types: List::from_slice(alloc, &[1])?,
+        types: place(alloc)?,
     })
 }
 
@@ -97,7 +99,7 @@ fn task(alloc: Global) -> Result<TypedTask, Fail>
             alloc,
             Symbol {
                 name: text(alloc, "at")?,
-                parameters: one(alloc, List::from_slice(alloc, &[1])?)?,
+                parameters: one(alloc, place(alloc)?)?,
             },
         )?,
         functions: List::new(alloc),
