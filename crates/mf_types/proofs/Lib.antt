@@ -35,3 +35,4 @@ pub mod ValidExpressions
 pub mod ValidTask
 pub mod ValidTerms
 pub mod Walks
+mod TypeWords

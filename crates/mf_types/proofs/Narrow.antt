@@ -34,6 +34,14 @@ pub types_below : (names : List (List ℕ)) → 0 < length names → (ws : List 
 types_below names h [] = All-cons (λ n. n < length names) 0 [] h (All-nil (λ n. n < length names))
 types_below names h (w ∷ ws) = numbers_below names (w ∷ ws)
 
+narrower : (most : ℕ) (ns : List ℕ) → most ≤ 10001 → AreBelow most ns → IsNarrow ns
+narrower most ns h all k d within = let here = all k d within in omega (arith, here, h)
+
+-- of few types, where there may be none
+pub narrow_row : (names : List (List ℕ)) → length names ≤ 10001 → (ws : List Word) → IsNarrow (types_of names ws)
+narrow_row names h [] = All-cons (λ n. n < 65536) 0 [] (omega arith) (All-nil (λ n. n < 65536))
+narrow_row names h (w ∷ ws) = narrower (length names) (numbers_of names (w ∷ ws)) h (numbers_below names (w ∷ ws))
+
 head_below : (most : ℕ) → 0 < most → (ns : List ℕ) → AreBelow most ns → head_or_zero ns < most
 head_below most h [] all = h
 head_below most h (n ∷ ns) all = All-head (λ m. m < most) n ns all
@@ -64,9 +72,6 @@ are_numbers d p =
       predicates = every (All (AreBelow (length names))) (header_types names) (header_below names some) (firsts header_text [] d.predicates);
       functions = every (All (AreBelow (length names))) (header_types names) (header_below names some) (firsts header_text [] d.functions);
     }
-
-narrower : (most : ℕ) (ns : List ℕ) → most ≤ 10001 → AreBelow most ns → IsNarrow ns
-narrower most ns h all k d within = let here = all k d within in omega (arith, here, h)
 
 all_narrower : (most : ℕ) (lists : List (List ℕ)) → most ≤ 10001 → All (AreBelow most) lists → All IsNarrow lists
 all_narrower most lists h all k d within = narrower most _ h (all k d within)

@@ -1,5 +1,5 @@
 -- The order of faults, and that the one that is answered comes first.
-use Rattle.std.proofs.Common.{◌≡◌, ℕ, zero, suc, ◌≤◌, Bool, true, false, if◌then◌else◌, nat_eq, nat_le, nat_lt, ◌⊎◌, inl, inr, Some, None, List, [], ◌∷◌, refl, subst, arith}
+use Rattle.std.proofs.Common.{◌≡◌, ℕ, zero, suc, ◌≤◌, Bool, true, false, if◌then◌else◌, nat_eq, nat_le, nat_lt, ◌⊎◌, inl, inr, Option, Some, None, List, [], ◌∷◌, refl, subst, ap, ◌∙◌, arith}
 use Rattle.std.proofs.lemmas.Bool.Decides.{nat_tests}
 use Rattle.std.specs.List.{Contains}
 use Rattle.std.proofs.lemmas.List.Elements.{Contains-append_left, Contains-append_right, Contains-append_cases}
@@ -109,3 +109,25 @@ some_stays best (x ∷ faults) e = stays (is_before best x) (λ next h. some_sta
 pub none_of_all : (faults : List Fault) → after None faults ≡ None → faults ≡ []
 none_of_all [] e = refl
 none_of_all (x ∷ faults) e = absurd (some_stays x faults e)
+
+stays_first : (best : Fault) (faults : List Fault) → ((other : Fault) → Contains faults other → is_before best other ≡ true) → after (Some best) faults ≡ Some best
+stays_first best [] h = refl
+stays_first best (x ∷ faults) h =
+    ap (λ (b : Bool). after (if b then Some best else Some x) faults) (h x (here_or_later x x faults (inl refl)))
+    ∙ stays_first best faults (λ other k. h other (Contains-append_right (x ∷ []) faults other k))
+
+before_others : (best : Option Fault) (faults : List Fault) (fault : Fault) → after best faults ≡ Some fault → (other : Fault) → Contains faults other → is_before fault other ≡ true
+before_others None faults fault e = (least_of_all faults fault e).1
+before_others (Some best) faults fault e = (answered best faults fault e).others
+
+none_there : (best : Option Fault) (faults : List Fault) → after best faults ≡ None → faults ≡ []
+none_there None faults e = none_of_all faults e
+none_there (Some best) faults e = absurd (some_stays best faults e)
+
+again : (best : Option Fault) (faults : List Fault) (found : Option Fault) → after best faults ≡ found → after found faults ≡ found
+again best faults None e = ap (after None) (none_there best faults e)
+again best faults (Some fault) e = stays_first fault faults (before_others best faults fault e)
+
+-- what was found is found no second time
+pub after_twice : (best : Option Fault) (faults : List Fault) → after (after best faults) faults ≡ after best faults
+after_twice best faults = again best faults (after best faults) refl

@@ -6,7 +6,6 @@ use Rattle.std.specs.Cmp.Lexicographic.{pointwise}
 use Rattle.mf_fraction.specs.Decimal.{has_minus, without_minus, is_point}
 use Rattle.mf_model.specs.declared.form.FileKind.TheVariants.{ProblemFile}
 use Rattle.mf_model.specs.declared.form.RawValue.{RawValue}
-use Rattle.mf_model.specs.declared.form.Word.{Word}
 use Rattle.mf_types.specs.declared.least.Fault.{Fault}
 use Rattle.mf_types.specs.declared.least.FaultKind.TheVariants.{Twice}
 use Rattle.mf_types.specs.Faults.{at_word}

@@ -10,7 +10,7 @@ use crate::least::{Fault, FaultKind, at_word};
 use crate::scope::{Variable, types_of_variable};
 use crate::site::Site;
 use crate::tables::Tables;
-use mf_model::{List, Word};
+use mf_model::{SharedList, Word};
 
 fn is_variable(name: &[u8]) -> bool
     ensures { result ≡ spec.is_variable name.now }
@@ -97,7 +97,7 @@ fn arguments(
     site: &Site<'_>,
     mut best: Option<Fault>,
     scope: &[Variable],
-    mut parameters: &[List<usize>],
+    mut parameters: &[SharedList<usize>],
     words: &[Word],
 ) -> Option<Fault>
     ensures { result ≡ after best
@@ -119,7 +119,7 @@ fn symbol(
     site: &Site<'_>,
     best: Option<Fault>,
     scope: &[Variable],
-    parameters: Option<&[List<usize>]>,
+    parameters: Option<&[SharedList<usize>]>,
     name: &Word,
     words: &[Word],
 ) -> Option<Fault>
@@ -138,7 +138,7 @@ fn symbol(
 fn count(
     site: &Site<'_>,
     best: Option<Fault>,
-    parameters: &[List<usize>],
+    parameters: &[SharedList<usize>],
     name: &Word,
     words: &[Word],
 ) -> Option<Fault>
@@ -186,7 +186,7 @@ pub(crate) fn function(
 }
 
 /// For each parameter of a predicate its types.
-fn parameters_of_predicate<'a>(tables: &'a Tables, name: &[u8]) -> Option<&'a [List<usize>]>
+fn parameters_of_predicate<'a>(tables: &'a Tables, name: &[u8]) -> Option<&'a [SharedList<usize>]>
     ensures { option_copied result ≡ spec.predicate_parameters (declared_of tables.now) name.now }
 {
     let number = tables.find_predicate(name)?;
@@ -197,7 +197,7 @@ fn parameters_of_predicate<'a>(tables: &'a Tables, name: &[u8]) -> Option<&'a [L
 pub(crate) fn parameters_of_function<'a>(
     tables: &'a Tables,
     name: &[u8],
-) -> Option<&'a [List<usize>]>
+) -> Option<&'a [SharedList<usize>]>
     ensures { option_copied result ≡ spec.function_parameters (declared_of tables.now) name.now }
 {
     let number = tables.find_function(name)?;

@@ -12,6 +12,7 @@ mod effects;
 mod expressions;
 mod keys;
 mod leaves;
+mod narrow_rows;
 mod start;
 
 use crate::refusal::Refusal;

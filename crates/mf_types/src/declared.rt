@@ -2,7 +2,7 @@ ghost use Rattle.std.specs.Prelude.{◌≡◌, [], ◌++◌, map, IfOk};
 ghost use Rattle.mf_types.specs.Names as spec;
 
 use crate::entering::{add_headers, add_items};
-use mf_model::{Header, List, Typed};
+use mf_model::{Header, List, SharedList, Typed};
 use mf_names::Names;
 use std::alloc::{AllocError, Global};
 
@@ -10,14 +10,14 @@ use std::alloc::{AllocError, Global};
 #[derive(Debug, Drop)]
 pub(crate) struct ObjectTable {
     pub(crate) names: Names,
-    pub(crate) types: List<List<usize>>,
+    pub(crate) types: List<SharedList<usize>>,
 }
 
 /// Predicates or functions in the order of their numbers, each with the types of its parameters.
 #[derive(Debug, Drop)]
 pub(crate) struct SymbolTable {
     pub(crate) names: Names,
-    pub(crate) types: List<List<List<usize>>>,
+    pub(crate) types: List<List<SharedList<usize>>>,
 }
 
 /// The constants, and then the objects of the problem.

@@ -2,7 +2,8 @@ ghost use Rattle.std.specs.Prelude.{◌≡◌, [], ◌∷◌, ◌++◌, map, not
 ghost use Rattle.mf_types.specs.Names as spec;
 ghost use Rattle.mf_types.specs.Tables.{entered};
 
-use mf_model::{Header, List, Text, Typed, Word};
+use crate::type_rows::TypeRows;
+use mf_model::{Header, List, SharedList, Text, Typed};
 use mf_names::Names;
 use std::alloc::{AllocError, Global};
 
@@ -19,46 +20,18 @@ pub(crate) fn enter(alloc: Global, names: &mut Names, name: &Text) -> Result<boo
     Ok(true)
 }
 
-/// The numbers of the types that are written, of those that are declared; type 0 where none is
-/// written.
-pub(crate) fn types_of(
-    alloc: Global,
-    types: &Names,
-    words: &[Word],
-) -> Result<List<usize>, AllocError>
-    ensures { IfOk result (λ numbers. numbers ≡ spec.types_of types.now words.now) }
-{
-    if words.is_empty() {
-        let mut object = List::new(alloc);
-        object.push(0)?;
-        return Ok(object);
-    }
-    numbers_of(alloc, types, words)
-}
-
-fn numbers_of(alloc: Global, types: &Names, words: &[Word]) -> Result<List<usize>, AllocError>
-    ensures { IfOk result (λ numbers. numbers ≡ spec.numbers_of types.now words.now) }
-{
-    let mut out = List::new(alloc);
-    for word in words {
-        if let Some(number) = types.find(word.text.as_slice()) {
-            out.push(number)?;
-        }
-    }
-    Ok(out)
-}
-
 /// The types of each of some parameters.
-pub(crate) fn types_of_all(
+fn types_of_all<'w>(
     alloc: Global,
-    types: &Names,
-    items: &[Typed],
-) -> Result<List<List<usize>>, AllocError>
-    ensures { IfOk result (λ all. all ≡ map (spec.item_types types.now) items.now) }
+    rows: &mut TypeRows<'_, 'w>,
+    items: &'w [Typed],
+) -> Result<List<SharedList<usize>>, AllocError>
+    ensures same { rows.new ≡ rows.old }
+    ensures types { IfOk result (λ all. all ≡ map (spec.item_types rows.old) items.now) }
 {
     let mut out = List::new(alloc);
     for item in items {
-        out.push(types_of(alloc, types, item.types.as_slice())?)?;
+        out.push(rows.types_of(alloc, item.types.as_slice())?)?;
     }
     Ok(out)
 }
@@ -68,7 +41,7 @@ pub(crate) fn add_items(
     alloc: Global,
     types: &Names,
     names: &mut Names,
-    out: &mut List<List<usize>>,
+    out: &mut List<SharedList<usize>>,
     items: &[Typed],
 ) -> Result<(), AllocError>
     ensures names { OnOk result (names.new ≡ entered names.old (map spec.item_text items.now)) }
@@ -76,26 +49,28 @@ pub(crate) fn add_items(
         (out.new ≡ out.old ++ map (spec.item_types types.now)
         (spec.firsts spec.item_text names.old items.now)) }
 {
+    let mut rows = TypeRows::new(alloc, types)?;
     for item in items {
-        add_item(alloc, types, names, out, item)?;
+        add_item(alloc, &mut rows, names, out, item)?;
     }
     Ok(())
 }
 
-pub(crate) fn add_item(
+pub(crate) fn add_item<'w>(
     alloc: Global,
-    types: &Names,
+    rows: &mut TypeRows<'_, 'w>,
     names: &mut Names,
-    out: &mut List<List<usize>>,
-    item: &Typed,
+    out: &mut List<SharedList<usize>>,
+    item: &'w Typed,
 ) -> Result<(), AllocError>
+    ensures same { rows.new ≡ rows.old }
     ensures names { OnOk result (names.new ≡ entered names.old (item.now.word.text ∷ [])) }
     ensures types { OnOk result
-        (out.new ≡ out.old ++ map (spec.item_types types.now)
+        (out.new ≡ out.old ++ map (spec.item_types rows.old)
         (spec.firsts spec.item_text names.old (item.now ∷ []))) }
 {
     if enter(alloc, names, &item.word.text)? {
-        out.push(types_of(alloc, types, item.types.as_slice())?)?;
+        out.push(rows.types_of(alloc, item.types.as_slice())?)?;
     }
     Ok(())
 }
@@ -105,7 +80,7 @@ pub(crate) fn add_headers(
     alloc: Global,
     types: &Names,
     names: &mut Names,
-    out: &mut List<List<List<usize>>>,
+    out: &mut List<List<SharedList<usize>>>,
     headers: &[Header],
 ) -> Result<(), AllocError>
     ensures names { OnOk result (names.new ≡ entered names.old (map spec.header_text headers.now)) }
@@ -113,26 +88,28 @@ pub(crate) fn add_headers(
         (out.new ≡ out.old ++ map (spec.header_types types.now)
         (spec.firsts spec.header_text names.old headers.now)) }
 {
+    let mut rows = TypeRows::new(alloc, types)?;
     for header in headers {
-        add_header(alloc, types, names, out, header)?;
+        add_header(alloc, &mut rows, names, out, header)?;
     }
     Ok(())
 }
 
-fn add_header(
+fn add_header<'w>(
     alloc: Global,
-    types: &Names,
+    rows: &mut TypeRows<'_, 'w>,
     names: &mut Names,
-    out: &mut List<List<List<usize>>>,
-    header: &Header,
+    out: &mut List<List<SharedList<usize>>>,
+    header: &'w Header,
 ) -> Result<(), AllocError>
+    ensures same { rows.new ≡ rows.old }
     ensures names { OnOk result (names.new ≡ entered names.old (header.now.word.text ∷ [])) }
     ensures types { OnOk result
-        (out.new ≡ out.old ++ map (spec.header_types types.now)
+        (out.new ≡ out.old ++ map (spec.header_types rows.old)
         (spec.firsts spec.header_text names.old (header.now ∷ []))) }
 {
     if enter(alloc, names, &header.word.text)? {
-        out.push(types_of_all(alloc, types, header.parameters.as_slice())?)?;
+        out.push(types_of_all(alloc, rows, header.parameters.as_slice())?)?;
     }
     Ok(())
 }

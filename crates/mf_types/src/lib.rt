@@ -26,6 +26,7 @@ mod scope;
 mod site;
 mod start_values;
 mod tables;
+mod type_rows;
 mod type_table;
 mod uses;
 mod words;

@@ -7,6 +7,7 @@ ghost use Rattle.mf_types.specs.Sites.{site_of};
 use crate::least::{Fault, FaultKind, at_word};
 use crate::listing::{beyond_behind, repeats_alone};
 use crate::site::Site;
+use crate::type_rows::are_same;
 use crate::words::item_words;
 use mf_model::{Typed, Word};
 use std::alloc::{AllocError, Global};
@@ -32,22 +33,21 @@ pub(crate) fn variables(
     Ok(item_types(site, best, items))
 }
 
-/// The faults of the types of items.
+/// The faults of the types of items. Neighbours of the same words, as those of a group, are
+/// looked at once.
 #[tactic(auto, using(crate::proofs::After::after_append))]
 pub(crate) fn item_types(site: &Site<'_>, mut best: Option<Fault>, items: &[Typed]) -> Option<Fault>
     ensures { result ≡ after best (flat_map (spec.item_faults (site_of site.now)) items.now) }
 {
+    let mut seen: &[Word] = &[];
     for item in items {
-        best = types(site, best, item);
+        let words = item.types.as_slice();
+        if !are_same(seen, words) {
+            best = type_words(site, best, words);
+            seen = words;
+        }
     }
     best
-}
-
-/// The faults of the types of an item.
-fn types(site: &Site<'_>, best: Option<Fault>, item: &Typed) -> Option<Fault>
-    ensures { result ≡ after best (spec.item_faults (site_of site.now) item.now) }
-{
-    type_words(site, best, item.types.as_slice())
 }
 
 #[tactic(auto, using(crate::proofs::After::after_append))]

@@ -3,8 +3,8 @@ ghost use Rattle.std.specs.Option.{option_copied};
 ghost use Rattle.mf_types.specs.Arguments.{types_at};
 ghost use Rattle.mf_types.specs.Scopes as spec;
 
-use crate::entering::types_of;
-use mf_model::{List, Text, Typed};
+use crate::type_rows::TypeRows;
+use mf_model::{SharedList, Text, Typed};
 use mf_names::Names;
 use std::alloc::{AllocError, Global};
 
@@ -12,7 +12,7 @@ use std::alloc::{AllocError, Global};
 #[derive(Debug, Drop)]
 pub(crate) struct Variable {
     pub(crate) name: Text,
-    pub(crate) types: List<usize>,
+    pub(crate) types: SharedList<usize>,
 }
 
 /// The types of the innermost variable of a name.
@@ -28,11 +28,16 @@ pub(crate) fn types_of_variable<'a>(scope: &'a [Variable], name: &[u8]) -> Optio
     types
 }
 
-fn make_variable(alloc: Global, names: &Names, item: &Typed) -> Result<Variable, AllocError>
-    ensures { IfOk result (λ v. v ≡ spec.variable_of names.now item.now) }
+fn make_variable<'w>(
+    alloc: Global,
+    rows: &mut TypeRows<'_, 'w>,
+    item: &'w Typed,
+) -> Result<Variable, AllocError>
+    ensures same { rows.new ≡ rows.old }
+    ensures variable { IfOk result (λ v. v ≡ spec.variable_of rows.old item.now) }
 {
     let name = item.word.text.copy(alloc)?;
-    let types = types_of(alloc, names, item.types.as_slice())?;
+    let types = rows.types_of(alloc, item.types.as_slice())?;
     Ok(Variable { name, types })
 }
 
@@ -46,8 +51,9 @@ pub(crate) fn enter(
     ensures { OnOk result (scope.new.items ≡
         scope.old.items ++ spec.variables_of names.now items.now) }
 {
+    let mut rows = TypeRows::new(alloc, names)?;
     for item in items {
-        let variable = make_variable(alloc, names, item)?;
+        let variable = make_variable(alloc, &mut rows, item)?;
         scope.push(variable)?;
     }
     Ok(())

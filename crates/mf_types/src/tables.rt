@@ -8,7 +8,7 @@ ghost use Rattle.mf_types.specs.Tables.{declared_of};
 use crate::changed::changed;
 use crate::declared::{object_table, symbol_table};
 use crate::type_table::type_table;
-use mf_model::{Domain, List, Problem, descends};
+use mf_model::{Domain, List, Problem, SharedList, descends};
 use mf_names::Names;
 use std::alloc::{AllocError, Global};
 
@@ -19,11 +19,11 @@ pub(crate) struct Tables {
     pub(crate) types: Names,
     pub(crate) parents: List<usize>,
     pub(crate) objects: Names,
-    pub(crate) object_types: List<List<usize>>,
+    pub(crate) object_types: List<SharedList<usize>>,
     pub(crate) predicates: Names,
-    pub(crate) predicate_types: List<List<List<usize>>>,
+    pub(crate) predicate_types: List<List<SharedList<usize>>>,
     pub(crate) functions: Names,
-    pub(crate) function_types: List<List<List<usize>>>,
+    pub(crate) function_types: List<List<SharedList<usize>>>,
     pub(crate) changed: Names,
 }
 
@@ -101,7 +101,7 @@ impl Tables {
     }
 
     /// The declared types of each parameter of a predicate.
-    pub(crate) fn types_of_predicate(&self, number: usize) -> &[List<usize>]
+    pub(crate) fn types_of_predicate(&self, number: usize) -> &[SharedList<usize>]
         ensures { result.now ≡ slice_index_or self.now.predicate_types number [] }
     {
         match self.predicate_types.get(number) {
@@ -111,7 +111,7 @@ impl Tables {
     }
 
     /// The declared types of each parameter of a function.
-    pub(crate) fn types_of_function(&self, number: usize) -> &[List<usize>]
+    pub(crate) fn types_of_function(&self, number: usize) -> &[SharedList<usize>]
         ensures { result.now ≡ slice_index_or self.now.function_types number [] }
     {
         match self.function_types.get(number) {

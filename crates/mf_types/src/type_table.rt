@@ -4,7 +4,8 @@ ghost use Rattle.mf_types.specs.Tables.{entered, parent_by, pointed};
 
 use crate::entering::{add_item, enter};
 use crate::kept::says_nothing;
-use mf_model::{List, Text, Typed, Word};
+use crate::type_rows::TypeRows;
+use mf_model::{List, SharedList, Text, Typed, Word};
 use mf_names::Names;
 use std::alloc::{AllocError, Global};
 
@@ -122,7 +123,7 @@ fn add_kept(
     alloc: Global,
     types: &Names,
     names: &mut Names,
-    out: &mut List<List<usize>>,
+    out: &mut List<SharedList<usize>>,
     items: &[Typed],
 ) -> Result<(), AllocError>
     ensures names { OnOk result
@@ -131,29 +132,31 @@ fn add_kept(
         (out.new ≡ out.old ++ map (spec.item_types types.now)
         (spec.firsts spec.item_text names.old (spec.kept_types items.now))) }
 {
+    let mut rows = TypeRows::new(alloc, types)?;
     for item in items {
-        add_if_kept(alloc, types, names, out, item)?;
+        add_if_kept(alloc, &mut rows, names, out, item)?;
     }
     Ok(())
 }
 
-fn add_if_kept(
+fn add_if_kept<'w>(
     alloc: Global,
-    types: &Names,
+    rows: &mut TypeRows<'_, 'w>,
     names: &mut Names,
-    out: &mut List<List<usize>>,
-    item: &Typed,
+    out: &mut List<SharedList<usize>>,
+    item: &'w Typed,
 ) -> Result<(), AllocError>
+    ensures same { rows.new ≡ rows.old }
     ensures names { OnOk result
         (names.new ≡ entered names.old (map spec.item_text (spec.kept_types (item.now ∷ [])))) }
     ensures types { OnOk result
-        (out.new ≡ out.old ++ map (spec.item_types types.now)
+        (out.new ≡ out.old ++ map (spec.item_types rows.old)
         (spec.firsts spec.item_text names.old (spec.kept_types (item.now ∷ [])))) }
 {
     if says_nothing(item) {
         return Ok(());
     }
-    add_item(alloc, types, names, out, item)
+    add_item(alloc, rows, names, out, item)
 }
 
 // The parent of `object`, and of each of the words, by the first items of a name and their types.
@@ -161,7 +164,7 @@ fn parents(
     alloc: Global,
     words: &[&Word],
     own: &Names,
-    types: &[List<usize>],
+    types: &[SharedList<usize>],
 ) -> Result<List<usize>, AllocError>
     ensures { IfOk result
         (λ parents. parents
@@ -176,7 +179,7 @@ fn parents(
     Ok(parents)
 }
 
-fn parent_of(own: &Names, types: &[List<usize>], name: &[u8]) -> usize
+fn parent_of(own: &Names, types: &[SharedList<usize>], name: &[u8]) -> usize
     ensures { result ≡ parent_by own.now types.now name.now }
 {
     match own.find(name) {
@@ -185,7 +188,7 @@ fn parent_of(own: &Names, types: &[List<usize>], name: &[u8]) -> usize
     }
 }
 
-fn first_type(types: &[List<usize>], number: usize) -> usize
+fn first_type(types: &[SharedList<usize>], number: usize) -> usize
     ensures { result ≡ spec.head_or_zero (slice_index_or types.now number []) }
 {
     match types.get(number) {

@@ -1,14 +1,15 @@
 ghost use Rattle.std.specs.Prelude.{◌≡◌, ◌≤◌, ◌++◌, length, IfOk, OnOk};
 ghost use Rattle.mf_model.specs.Resolution.{typed_names};
 ghost use Rattle.mf_types.specs.Gives.{Gives};
-ghost use Rattle.mf_types.specs.Names as names;
 ghost use Rattle.mf_types.specs.Tables.{declared_of};
 ghost use Rattle.mf_types.specs.Tasks.{AreFew};
 ghost use Rattle.mf_types.specs.Typing as spec;
 
+use super::narrow_rows::NarrowRows;
 use crate::refusal::Refusal;
 use crate::tables::Tables;
-use mf_model::{List, Text, Typed, Types, Word};
+use crate::type_rows::TypeRows;
+use mf_model::{List, Text, Typed, Types};
 use std::alloc::{AllocError, Global};
 
 // The most variables in scope.
@@ -54,32 +55,8 @@ pub(crate) fn inside(
     Ok(out)
 }
 
-/// The numbers of the types that are declared.
-fn numbers(alloc: Global, tables: &Tables, words: &[Word]) -> Result<Types, AllocError>
-    requires few { AreFew (declared_of tables.now) }
-    ensures { IfOk result (λ ns. ns ≡ names.numbers_of (declared_of tables.now).types words.now) }
-{
-    let mut out = List::new(alloc);
-    for word in words {
-        if let Some(number) = tables.find_type(word.text.as_slice()) {
-            out.push(number as u16)?;
-        }
-    }
-    Ok(out)
-}
-
-/// The declared types of an item: `object` where none are written.
-fn item_types(alloc: Global, tables: &Tables, item: &Typed) -> Result<Types, AllocError>
-    requires few { AreFew (declared_of tables.now) }
-    ensures { IfOk result (λ ns. ns ≡ names.item_types (declared_of tables.now).types item.now) }
-{
-    if item.types.is_empty() {
-        return List::from_slice(alloc, &[0]);
-    }
-    numbers(alloc, tables, item.types.as_slice())
-}
-
 /// The declared types of each item.
+#[tactic(auto, using(crate::proofs::Narrow::narrow_row))]
 pub(crate) fn types(
     alloc: Global,
     tables: &Tables,
@@ -89,8 +66,11 @@ pub(crate) fn types(
     ensures { IfOk result (λ types. types ≡ spec.types_in (declared_of tables.now) items.now) }
 {
     let mut out = List::new(alloc);
+    let mut rows = TypeRows::new(alloc, &tables.types)?;
+    let mut narrow_rows = NarrowRows::new(alloc)?;
     for item in items {
-        out.push(item_types(alloc, tables, item)?)?;
+        let numbers = rows.types_of(alloc, item.types.as_slice())?;
+        out.push(narrow_rows.narrow(alloc, &numbers)?)?;
     }
     Ok(out)
 }

@@ -1,31 +1,23 @@
 ghost use Rattle.std.specs.Prelude.{◌≡◌, All, IfOk};
 ghost use Rattle.mf_types.specs.Tasks as spec;
 
-use crate::tables::Tables;
-use mf_model::{List, Object, Symbol, Text, TypeName, Types};
+use super::narrow_rows::NarrowRows;
+use mf_model::{List, Object, SharedList, Symbol, Text, TypeName, Types};
 use mf_names::Names;
 use std::alloc::{AllocError, Global};
 
-/// The numbers of types in 16 bits.
-fn narrow(alloc: Global, numbers: &[usize]) -> Result<Types, AllocError>
-    requires { spec.IsNarrow numbers.now }
-    ensures { IfOk result (λ types. types ≡ numbers.now) }
-{
-    let mut out = List::new(alloc);
-    for number in numbers {
-        out.push(*number as u16)?;
-    }
-    Ok(out)
-}
-
 /// The types of each parameter in 16 bits.
-fn narrow_all(alloc: Global, lists: &[List<usize>]) -> Result<List<Types>, AllocError>
+fn narrow_all(
+    alloc: Global,
+    rows: &mut NarrowRows,
+    lists: &[SharedList<usize>],
+) -> Result<List<Types>, AllocError>
     requires { All spec.IsNarrow lists.now }
     ensures { IfOk result (λ types. types ≡ lists.now) }
 {
     let mut out = List::new(alloc);
     for numbers in lists {
-        out.push(narrow(alloc, numbers.as_slice())?)?;
+        out.push(rows.narrow(alloc, numbers)?)?;
     }
     Ok(out)
 }
@@ -56,19 +48,20 @@ pub(crate) fn type_names(
 pub(crate) fn objects(
     alloc: Global,
     names: &Names,
-    types: &[List<usize>],
+    types: &[SharedList<usize>],
 ) -> Result<List<Object>, AllocError>
     requires { All spec.IsNarrow types.now }
     ensures { IfOk result (λ objects. objects ≡ spec.paired spec.object_named names.now types.now) }
 {
     let mut out = List::new(alloc);
+    let mut rows = NarrowRows::new(alloc)?;
     for (n, numbers) in types.iter().enumerate() {
         let Some(name) = names.get(n) else {
             return Ok(out);
         };
         out.push(Object {
             name: Text::from_slice(alloc, name)?,
-            types: narrow(alloc, numbers.as_slice())?,
+            types: rows.narrow(alloc, numbers)?,
         })?;
     }
     Ok(out)
@@ -78,19 +71,20 @@ pub(crate) fn objects(
 pub(crate) fn symbols(
     alloc: Global,
     names: &Names,
-    types: &[List<List<usize>>],
+    types: &[List<SharedList<usize>>],
 ) -> Result<List<Symbol>, AllocError>
     requires { All (All spec.IsNarrow) types.now }
     ensures { IfOk result (λ symbols. symbols ≡ spec.paired spec.symbol_named names.now types.now) }
 {
     let mut out = List::new(alloc);
+    let mut rows = NarrowRows::new(alloc)?;
     for (n, lists) in types.iter().enumerate() {
         let Some(name) = names.get(n) else {
             return Ok(out);
         };
         out.push(Symbol {
             name: Text::from_slice(alloc, name)?,
-            parameters: narrow_all(alloc, lists.as_slice())?,
+            parameters: narrow_all(alloc, &mut rows, lists.as_slice())?,
         })?;
     }
     Ok(out)

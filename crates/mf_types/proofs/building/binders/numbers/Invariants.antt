@@ -1,6 +1,0 @@
-use Rattle.std.proofs.Common.{◌≡◌, ◌++◌, drop}
-use Rattle.mf_types.specs.Names.{numbers_of}
-use Rattle.mf_types.proofs.building.binders.numbers.Given as goal
-
-abbrev pub invariant-loop-word : goal.invariant-loop-word
-invariant-loop-word l = l.out ++ numbers_of l.tables.types (drop l.word-index l.words) ≡ numbers_of l.tables.types l.words
