@@ -36,3 +36,6 @@ pub mod ValidTask
 pub mod ValidTerms
 pub mod Walks
 mod TypeWords
+mod Marked
+mod ByMarks
+mod Settling

@@ -23,3 +23,4 @@ pub mod Typing
 pub mod Uses
 pub mod Valid
 pub mod Written
+pub mod Marks

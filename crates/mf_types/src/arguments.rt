@@ -6,7 +6,7 @@ ghost use Rattle.mf_types.specs.Faults.{after};
 ghost use Rattle.mf_types.specs.Sites.{site_of};
 ghost use Rattle.mf_types.specs.Tables.{declared_of};
 
-use crate::least::{Fault, FaultKind, at_word};
+use crate::least::{Fault, FaultKind, at_word, is_settled};
 use crate::scope::{Variable, types_of_variable};
 use crate::site::Site;
 use crate::tables::Tables;
@@ -41,6 +41,7 @@ fn types_of_term<'a>(tables: &'a Tables, scope: &'a [Variable], name: &[u8]) -> 
 }
 
 /// The fault of a term whose name isn't declared.
+#[tactic(auto, using(crate::proofs::Settling::settled_term))]
 pub(crate) fn term(
     site: &Site<'_>,
     best: Option<Fault>,
@@ -49,6 +50,9 @@ pub(crate) fn term(
 ) -> Option<Fault>
     ensures { result ≡ after best (spec.term_faults (site_of site.now) scope.now word.now) }
 {
+    if is_settled(best, site.file, word) {
+        return best;
+    }
     match types_of_term(site.tables, scope, word.text.as_slice()) {
         Some(_) => best,
         None => at_word(best, FaultKind::UnknownName, site.file, word),
@@ -73,6 +77,7 @@ fn terms(
 }
 
 /// The fault of an argument that can have none of the wanted types.
+#[tactic(auto, using(crate::proofs::Settling::settled_argument))]
 fn argument(
     site: &Site<'_>,
     best: Option<Fault>,
@@ -83,6 +88,9 @@ fn argument(
     ensures { result ≡ after best (spec.type_faults (site_of site.now) wanted.now word.now
         (spec.term_types (declared_of site.now.tables.now) scope.now word.now.text)) }
 {
+    if is_settled(best, site.file, word) {
+        return best;
+    }
     match types_of_term(site.tables, scope, word.text.as_slice()) {
         Some(own) if !site.tables.are_related(own, wanted) => {
             at_word(best, FaultKind::WrongType, site.file, word)

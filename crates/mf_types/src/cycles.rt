@@ -116,7 +116,8 @@ fn is_top(parents: &[usize], number: usize) -> bool
     number == 0 && parent_of(parents, 0) == 0
 }
 
-fn parent_of(parents: &[usize], number: usize) -> usize
+/// The number of a type's parent.
+pub(crate) fn parent_of(parents: &[usize], number: usize) -> usize
     ensures { result ≡ slice_index_or parents.now number 0 }
 {
     match parents.get(number) {

@@ -1,4 +1,5 @@
 ghost use Rattle.std.specs.Prelude.{◌≡◌};
+ghost use Rattle.std.specs.Bool.{OnTrue};
 ghost use Rattle.mf_types.specs.Faults as spec;
 
 use mf_model::{FileKind, Span, Word};
@@ -71,6 +72,18 @@ fn least(best: Option<Fault>, fault: Fault) -> Option<Fault>
         Some(other) if is_before(other, fault) => Some(other),
         Some(_) => Some(fault),
     }
+}
+
+/// Whether no fault at a word comes before the best so far.
+pub(crate) fn is_settled(best: Option<Fault>, file: FileKind, word: &Word) -> bool
+    ensures { OnTrue result
+        ((kind : FaultKind) → spec.after best (spec.at_word kind file word.now) ≡ best) }
+{
+    let Some(fault) = best else {
+        return false;
+    };
+    let files = (file_rank(fault.file), file_rank(file));
+    files.0 < files.1 || (files.0 == files.1 && fault.span.start < word.span.start)
 }
 
 /// The best fault so far or one at a word.

@@ -1,14 +1,14 @@
 ghost use Rattle.std.specs.Prelude.{◌≡◌, ◌<◌, [], length, IfOk, IfSome, slice_index_or};
 ghost use Rattle.mf_model.specs.Resolution.{number_of};
-ghost use Rattle.std.specs.List.{list_any};
 ghost use Rattle.mf_types.specs.Names.{declared_by, is_member};
 ghost use Rattle.mf_types.specs.Related as related;
 ghost use Rattle.mf_types.specs.Tables.{declared_of};
 
 use crate::changed::changed;
 use crate::declared::{object_table, symbol_table};
+use crate::relation::are_related;
 use crate::type_table::type_table;
-use mf_model::{Domain, List, Problem, SharedList, descends};
+use mf_model::{Domain, List, Problem, SharedList};
 use mf_names::Names;
 use std::alloc::{AllocError, Global};
 
@@ -131,27 +131,7 @@ impl Tables {
     pub(crate) fn are_related(&self, types: &[usize], others: &[usize]) -> bool
         ensures { result ≡ related.are_related self.now.parents types.now others.now }
     {
-        are_related(self.parents.as_slice(), types, others)
+        let alloc = self.parents.allocator();
+        are_related(alloc, self.parents.as_slice(), types, others)
     }
-}
-
-fn are_related(parents: &[usize], types: &[usize], others: &[usize]) -> bool
-    ensures { result ≡ related.are_related parents.now types.now others.now }
-{
-    types
-        .iter()
-        .any(|own| is_related_to_one(parents, *own, others))
-}
-
-fn is_related_to_one(parents: &[usize], own: usize, others: &[usize]) -> bool
-    ensures { result ≡ list_any (λ other. related.is_related parents.now own other) others.now }
-{
-    others.iter().any(|other| is_related(parents, own, *other))
-}
-
-// Whether one of two types is the other, or descends from it.
-fn is_related(parents: &[usize], own: usize, other: usize) -> bool
-    ensures { result ≡ related.is_related parents.now own other }
-{
-    descends(parents, own, other) || descends(parents, other, own)
 }
