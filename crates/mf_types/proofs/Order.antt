@@ -6,7 +6,7 @@ use Rattle.std.proofs.lemmas.List.Elements.{Contains-append_left, Contains-appen
 use Rattle.mf_types.specs.declared.least.Fault.{Fault}
 use Rattle.mf_types.specs.Faults.{after, file_rank, is_before, rank, IsLeast}
 
-abbrev comes : ℕ → ℕ → ℕ → ℕ → ℕ → ℕ → Bool
+abbrev pub comes : ℕ → ℕ → ℕ → ℕ → ℕ → ℕ → Bool
 comes a s r b t q = if nat_eq a b then (if nat_eq s t then nat_le r q else nat_lt s t) else nat_lt a b
 
 comes_first : (a s r b t q : ℕ) → comes a s r b t q ≡ true → a ≤ b

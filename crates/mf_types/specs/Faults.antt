@@ -1,6 +1,6 @@
 -- Faults of names, types and numbers, and which of several is answered: those of the domain come first, then
 -- the least start, then the order of the kinds.
-use Rattle.std.specs.Prelude.{◌≡◌, ℕ, Bool, true, if◌then◌else◌, nat_eq, nat_lt, nat_le, Option, Some, None, List, [], ◌∷◌, Contains}
+use Rattle.std.specs.Prelude.{◌≡◌, ℕ, Bool, true, false, if◌then◌else◌, nat_eq, nat_lt, nat_le, Option, Some, None, List, [], ◌∷◌, Contains}
 use Rattle.mf_model.specs.declared.token.Span.{Span}
 use Rattle.mf_model.specs.declared.form.FileKind.{FileKind}
 use Rattle.mf_model.specs.declared.form.FileKind.TheVariants.{DomainFile, ProblemFile}
@@ -38,6 +38,12 @@ least (Some best) fault = if is_before best fault then Some best else Some fault
 abbrev pub after : Option Fault → List Fault → Option Fault
 after best [] = best
 after best (fault ∷ faults) = after (least best fault) faults
+
+-- whether the best fault so far stands in an earlier file than a word, or earlier in its file
+abbrev pub stands_before : Option Fault → FileKind → Word → Bool
+stands_before None file w = false
+stands_before (Some best) file w =
+    if nat_eq (file_rank best.file) (file_rank file) then nat_lt best.span.start w.span.start else nat_lt (file_rank best.file) (file_rank file)
 
 abbrev pub fault_at : FaultKind → FileKind → Span → Fault
 fault_at kind file span = record { kind = kind; file = file; span = span }

@@ -6,7 +6,7 @@ ghost use Rattle.mf_types.specs.Faults.{after};
 ghost use Rattle.mf_types.specs.Sites.{site_of};
 ghost use Rattle.mf_types.specs.Tables.{declared_of};
 
-use crate::least::{Fault, FaultKind, at_word, is_settled};
+use crate::least::{Fault, FaultKind, at_word, stands_before};
 use crate::scope::{Variable, types_of_variable};
 use crate::site::Site;
 use crate::tables::Tables;
@@ -50,7 +50,7 @@ pub(crate) fn term(
 ) -> Option<Fault>
     ensures { result ≡ after best (spec.term_faults (site_of site.now) scope.now word.now) }
 {
-    if is_settled(best, site.file, word) {
+    if stands_before(best, site.file, word) {
         return best;
     }
     match types_of_term(site.tables, scope, word.text.as_slice()) {
@@ -88,7 +88,7 @@ fn argument(
     ensures { result ≡ after best (spec.type_faults (site_of site.now) wanted.now word.now
         (spec.term_types (declared_of site.now.tables.now) scope.now word.now.text)) }
 {
-    if is_settled(best, site.file, word) {
+    if stands_before(best, site.file, word) {
         return best;
     }
     match types_of_term(site.tables, scope, word.text.as_slice()) {

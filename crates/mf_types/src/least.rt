@@ -1,5 +1,4 @@
 ghost use Rattle.std.specs.Prelude.{◌≡◌};
-ghost use Rattle.std.specs.Bool.{OnTrue};
 ghost use Rattle.mf_types.specs.Faults as spec;
 
 use mf_model::{FileKind, Span, Word};
@@ -74,16 +73,18 @@ fn least(best: Option<Fault>, fault: Fault) -> Option<Fault>
     }
 }
 
-/// Whether no fault at a word comes before the best so far.
-pub(crate) fn is_settled(best: Option<Fault>, file: FileKind, word: &Word) -> bool
-    ensures { OnTrue result
-        ((kind : FaultKind) → spec.after best (spec.at_word kind file word.now) ≡ best) }
+/// Whether the best fault so far stands in an earlier file than a word, or earlier in its file: no
+/// fault at the word comes before it then.
+pub(crate) fn stands_before(best: Option<Fault>, file: FileKind, word: &Word) -> bool
+    ensures { result ≡ spec.stands_before best file word.now }
 {
     let Some(fault) = best else {
         return false;
     };
-    let files = (file_rank(fault.file), file_rank(file));
-    files.0 < files.1 || (files.0 == files.1 && fault.span.start < word.span.start)
+    if file_rank(fault.file) != file_rank(file) {
+        return file_rank(fault.file) < file_rank(file);
+    }
+    fault.span.start < word.span.start
 }
 
 /// The best fault so far or one at a word.

@@ -1,5 +1,5 @@
 ghost use Rattle.std.specs.Prelude.{◌≡◌, IfOk};
-ghost use Rattle.std.specs.Bool.{OnTrue};
+ghost use Rattle.std.specs.Bool.{Decides};
 ghost use Rattle.mf_types.specs.Names as spec;
 
 use mf_model::{List, SharedList, Word};
@@ -82,7 +82,7 @@ fn numbers_of(alloc: Global, types: &Names, words: &[Word]) -> Result<List<usize
 
 /// Whether two lists are of the same words at the same places.
 pub(crate) fn are_same(words: &[Word], others: &[Word]) -> bool
-    ensures { OnTrue result (words.now ≡ others.now) }
+    ensures { Decides result (words.now ≡ others.now) }
 {
     if words.len() != others.len() {
         return false;
@@ -96,7 +96,7 @@ pub(crate) fn are_same(words: &[Word], others: &[Word]) -> bool
 }
 
 fn is_same(word: &Word, other: &Word) -> bool
-    ensures { OnTrue result (word.now ≡ other.now) }
+    ensures { Decides result (word.now ≡ other.now) }
 {
     word.span == other.span && word.text == other.text
 }
