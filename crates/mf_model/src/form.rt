@@ -1,4 +1,4 @@
-use crate::{List, Op, Relation, SharedList, Span, Text};
+use crate::{List, Op, Relation, SharedList, Span, Text, TypedList};
 use sqlite_items::{Boxed, Items};
 
 /// A word of a file, folded to lower case, with its place.
@@ -19,7 +19,7 @@ pub struct Typed {
 #[derive(Debug, Drop)]
 pub struct Header {
     pub word: Word,
-    pub parameters: List<Typed>,
+    pub parameters: TypedList,
 }
 
 /// A condition as written.
@@ -59,12 +59,12 @@ pub enum RawCond {
         span: Span,
     },
     All {
-        variables: List<Typed>,
+        variables: TypedList,
         part: Boxed<RawCond>,
         span: Span,
     },
     Any {
-        variables: List<Typed>,
+        variables: TypedList,
         part: Boxed<RawCond>,
         span: Span,
     },
@@ -134,7 +134,7 @@ pub enum RawEffect {
         span: Span,
     },
     Each {
-        variables: List<Typed>,
+        variables: TypedList,
         part: Boxed<RawEffect>,
         span: Span,
     },
@@ -148,7 +148,7 @@ pub enum RawEffect {
 #[derive(Debug, Drop)]
 pub struct RawAction {
     pub word: Word,
-    pub parameters: List<Typed>,
+    pub parameters: TypedList,
     pub condition: RawCond,
     pub effect: RawEffect,
 }
@@ -157,8 +157,8 @@ pub struct RawAction {
 #[derive(Debug, Drop)]
 pub struct Domain {
     pub name: Text,
-    pub types: List<Typed>,
-    pub constants: List<Typed>,
+    pub types: TypedList,
+    pub constants: TypedList,
     pub predicates: List<Header>,
     pub functions: List<Header>,
     pub actions: List<RawAction>,
@@ -182,7 +182,7 @@ pub struct RawMetric {
 #[derive(Debug, Drop)]
 pub struct Problem {
     pub name: Text,
-    pub objects: List<Typed>,
+    pub objects: TypedList,
     pub atoms: List<RawCond>,
     pub values: List<RawValue>,
     pub goal: RawCond,

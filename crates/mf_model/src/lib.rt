@@ -13,6 +13,7 @@ mod text;
 mod token;
 mod tree;
 mod truth;
+mod typed_list;
 
 pub use descent::{HasParent, descends};
 pub use form::{
@@ -30,6 +31,7 @@ pub use text::Text;
 pub use token::{Kind, Span, Token, Tokens};
 pub use tree::Tree;
 pub use truth::Truth;
+pub use typed_list::TypedList;
 
 #[cfg(test)]
 mod tests;

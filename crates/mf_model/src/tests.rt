@@ -1,5 +1,8 @@
-use crate::{Atom, Cell, Instance, List, SharedList, Text, TypeName, Valued, descends};
+use crate::{
+    Atom, Cell, Instance, List, SharedList, Span, Text, TypeName, TypedList, Valued, Word, descends,
+};
 use mf_fraction::Frac;
+use std::alloc::{AllocError, Global};
 use std::test::Fail;
 
 #[test]
@@ -31,6 +34,30 @@ fn lists_are_shared(rt: HostRuntime) -> Result<(), Fail> {
     assert_eq!(rt; other.as_slice(), [1u16, 2].as_slice());
     assert_eq!(rt; other.len(), 2);
     assert!(rt; !other.is_empty());
+    Ok(())
+}
+
+fn words(alloc: Global, texts: &[u8]) -> Result<List<Word>, AllocError> {
+    let mut words = List::new(alloc);
+    for text in texts {
+        let text = Text::from_slice(alloc, &[*text])?;
+        let span = Span { start: 0, end: 1 };
+        words.push(Word { text, span })?;
+    }
+    Ok(words)
+}
+
+#[test]
+fn groups_share_their_types(rt: HostRuntime) -> Result<(), Fail> {
+    let alloc = rt.alloc();
+    let room = SharedList::from_list(words(alloc, b"r")?)?;
+    let list = TypedList::new(alloc).with_group(&room, words(alloc, b"ab")?)?;
+    let list = list.with_group(&room, words(alloc, b"c")?)?;
+    assert_eq!(rt; list.len(), 3);
+    assert!(rt; !list.shares_types(0));
+    assert!(rt; list.shares_types(1));
+    assert!(rt; !list.shares_types(2));
+    assert!(rt; list.as_slice()[1].types.as_slice()[0].text.as_slice() == b"r");
     Ok(())
 }
 

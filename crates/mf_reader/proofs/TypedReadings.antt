@@ -7,6 +7,7 @@ use Rattle.mf_model.specs.declared.token.Span.{Span}
 use Rattle.mf_model.specs.declared.tree.Tree.{Tree}
 use Rattle.mf_model.specs.declared.form.Word.{Word}
 use Rattle.mf_model.specs.declared.form.Typed.{Typed}
+use Rattle.mf_model.specs.TypedLists.{typed_as}
 use Rattle.mf_model.specs.Forms.{IsList, IsWord, Each, IsName, IsVariable}
 use Rattle.mf_reader.specs.declared.typed.Listed.{Listed}
 use Rattle.mf_reader.specs.declared.typed.Listed.TheVariants.{Variables, Names, Types}
@@ -15,7 +16,7 @@ use Rattle.mf_reader.specs.Faces.{has_text, is_dash, name_at, no_word, span_of, 
 use Rattle.mf_reader.specs.Places.{Seen}
 use Rattle.mf_reader.specs.Seen.{seen}
 use Rattle.mf_reader.specs.Typed.{alone, either_types, list_types, list_parent, item_in, types_in, grouped, group_from, dash_from, typed_list}
-use Rattle.mf_reader.specs.GrammarTerms.{IsNamedType, IsType, Group, IsDash, IsItem, AreGrouped, typed_as, typed_items, AreTyped, IsVariableList}
+use Rattle.mf_reader.specs.GrammarTerms.{IsNamedType, IsType, Group, IsDash, IsItem, AreGrouped, typed_items, AreTyped, IsVariableList}
 use Rattle.mf_reader.proofs.Branches.{seen_leaf, seen_branch, by_cases}
 use Rattle.mf_reader.proofs.Readings.{Reads, some_fault, none_of_both, both_said, mapped_said, each_sound, each_complete, all_reads}
 use Rattle.mf_reader.proofs.Choices.{by_test}

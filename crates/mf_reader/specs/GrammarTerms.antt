@@ -5,6 +5,7 @@ use Rattle.mf_model.specs.declared.token.Span.{Span}
 use Rattle.mf_model.specs.declared.tree.Tree.{Tree}
 use Rattle.mf_model.specs.declared.form.Word.{Word}
 use Rattle.mf_model.specs.declared.form.Typed.{Typed}
+use Rattle.mf_model.specs.TypedLists.{typed_as}
 use Rattle.mf_model.specs.Forms.{IsList, IsWord, IsHeaded, Each, IsName, IsVariable, IsTerm}
 
 -- (word part*)
@@ -56,9 +57,6 @@ AreGrouped Form Kind [] last ts = Each (IsItem Form) last ts
 AreGrouped Form Kind (g ∷ gs) last ts = (rest : List Tree) × IsGroup Form Kind g ts rest × AreGrouped Form Kind gs last rest
 
 -- Typed lists
-
-abbrev pub typed_as : List Word → List Word → List Typed
-typed_as types words = map (λ w. record { word = w; types = types }) words
 
 -- each item with the types of its group; the last ones have none
 abbrev pub typed_items : List (Group Word (List Word)) → List Word → List Typed

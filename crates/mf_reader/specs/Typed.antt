@@ -3,10 +3,10 @@ use Rattle.std.specs.Prelude.{Bool, false, if◌then◌else◌, List, [], ◌∷
 use Rattle.mf_model.specs.declared.token.Span.{Span}
 use Rattle.mf_model.specs.declared.form.Word.{Word}
 use Rattle.mf_model.specs.declared.form.Typed.{Typed}
+use Rattle.mf_model.specs.TypedLists.{typed_as}
 use Rattle.mf_reader.specs.declared.typed.Listed.{Listed}
 use Rattle.mf_reader.specs.declared.typed.Listed.TheVariants.{Variables, Names, Types}
 use Rattle.mf_reader.specs.Faces.{has_text, is_dash, name_at, no_word, span_of, variable_at, word}
-use Rattle.mf_reader.specs.GrammarTerms.{typed_as}
 use Rattle.mf_reader.specs.Places.{Seen}
 use Rattle.mf_reader.specs.Said.{Said, said, bad, left_out, both, mapped, each}
 

@@ -11,14 +11,14 @@ use crate::keys::{PartKey, part_key_of};
 use crate::places::EffectPlace;
 use crate::typed::variables;
 use crate::words::{name, span_of};
-use mf_model::{List, RawAction, RawCond, RawEffect, Span, Tree, Typed, Word};
+use mf_model::{List, RawAction, RawCond, RawEffect, Span, Tree, TypedList, Word};
 use sqlite_items::Items;
 use std::alloc::Global;
 
 /// The parts of an action that stand so far.
 #[derive(Drop)]
 pub(crate) struct Slots {
-    pub(crate) parameters: Option<List<Typed>>,
+    pub(crate) parameters: Option<TypedList>,
     pub(crate) condition: Option<RawCond>,
     pub(crate) effect: Option<RawEffect>,
 }
@@ -105,7 +105,7 @@ fn made_action(alloc: Global, span: Span, word: Word, slots: Slots) -> RawAction
         condition,
         effect,
     } = slots;
-    let parameters = parameters.unwrap_or(List::new(alloc));
+    let parameters = parameters.unwrap_or(TypedList::new(alloc));
     let condition = condition.unwrap_or(RawCond::And {
         parts: Items::new(alloc),
         span,

@@ -16,15 +16,15 @@ use crate::requirements::requirements;
 use crate::titles::title;
 use crate::typed::{Listed, typed_list};
 use crate::words::has_text;
-use mf_model::{Domain, Header, List, RawAction, Span, Text, Tree, Typed};
+use mf_model::{Domain, Header, List, RawAction, Span, Text, Tree, TypedList};
 use std::alloc::Global;
 
 /// The sections of a domain that stand so far.
 #[derive(Drop)]
 pub(crate) struct DomainParts {
     pub(crate) requirements: bool,
-    pub(crate) types: Option<List<Typed>>,
-    pub(crate) constants: Option<List<Typed>>,
+    pub(crate) types: Option<TypedList>,
+    pub(crate) constants: Option<TypedList>,
     pub(crate) predicates: Option<List<Header>>,
     pub(crate) functions: Option<List<Header>>,
     pub(crate) actions: List<RawAction>,
@@ -127,8 +127,8 @@ fn made_domain(alloc: Global, name: Text, parts: DomainParts) -> Domain
         functions,
         actions,
     } = parts;
-    let types = types.unwrap_or(List::new(alloc));
-    let constants = constants.unwrap_or(List::new(alloc));
+    let types = types.unwrap_or(TypedList::new(alloc));
+    let constants = constants.unwrap_or(TypedList::new(alloc));
     let predicates = predicates.unwrap_or(List::new(alloc));
     let functions = functions.unwrap_or(List::new(alloc));
     Domain {

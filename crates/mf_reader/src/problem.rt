@@ -16,7 +16,7 @@ use crate::requirements::requirements;
 use crate::titles::{one_word, title};
 use crate::typed::{Listed, typed_list};
 use crate::words::has_text;
-use mf_model::{List, Problem, RawCond, RawMetric, Span, Text, Tree, Typed};
+use mf_model::{List, Problem, RawCond, RawMetric, Span, Text, Tree, TypedList};
 use sqlite_items::Items;
 use std::alloc::Global;
 
@@ -25,7 +25,7 @@ use std::alloc::Global;
 pub(crate) struct ProblemParts {
     pub(crate) domain: bool,
     pub(crate) requirements: bool,
-    pub(crate) objects: Option<List<Typed>>,
+    pub(crate) objects: Option<TypedList>,
     pub(crate) init: Option<Starts>,
     pub(crate) goal: Option<RawCond>,
     pub(crate) metric: Option<RawMetric>,
@@ -164,7 +164,7 @@ fn made_problem(alloc: Global, span: Span, name: Text, parts: ProblemParts) -> P
         goal,
         metric,
     } = parts;
-    let objects = objects.unwrap_or(List::new(alloc));
+    let objects = objects.unwrap_or(TypedList::new(alloc));
     let Starts { atoms, values } = starts_or_none(alloc, init);
     let goal = goal.unwrap_or(RawCond::And {
         parts: Items::new(alloc),

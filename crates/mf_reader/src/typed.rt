@@ -1,6 +1,5 @@
 ghost use Rattle.std.specs.Prelude.{◌≡◌, ◌≤◌, ◌∷◌, IfOk, length, map};
 ghost use Rattle.mf_reader.specs.Faces.{name_at};
-ghost use Rattle.mf_reader.specs.GrammarTerms.{typed_as};
 ghost use Rattle.mf_reader.specs.Groups as reading;
 ghost use Rattle.mf_reader.specs.Said.{Gives, each, said};
 ghost use Rattle.mf_reader.specs.Seen.{seen};
@@ -8,7 +7,7 @@ ghost use Rattle.mf_reader.specs.Typed as spec;
 
 use crate::fault::FormFault;
 use crate::words::{has_text, name, span_of, variable};
-use mf_model::{List, SharedList, Span, Tree, Typed, Word};
+use mf_model::{List, SharedList, Span, Tree, TypedList, Word};
 use std::alloc::Global;
 use std::mem::replace;
 
@@ -123,26 +122,10 @@ fn item_types(alloc: Global, listed: Listed, tree: &Tree) -> Result<List<Word>, 
     }
 }
 
-/// Words as items of these types, which they share.
-fn with_types(
-    alloc: Global,
-    types: &SharedList<Word>,
-    words: List<Word>,
-) -> Result<List<Typed>, FormFault>
-    ensures { Gives result (said (typed_as types.now words)) }
-{
-    let mut out = List::new(alloc);
-    for word in words.into_vec() {
-        let types = types.share()?;
-        out.push(Typed { word, types })?;
-    }
-    Ok(out)
-}
-
 /// The groups that are read, and the words of the one that is begun.
 #[derive(Drop)]
 struct Groups {
-    done: List<Typed>,
+    done: TypedList,
     open: List<Word>,
 }
 
@@ -167,8 +150,8 @@ fn end_group<'a>(
     let types = item_types(alloc, listed, tree)?;
     let types = SharedList::from_list(types)?;
     let words = replace(&mut groups.open, List::new(alloc));
-    let group = with_types(alloc, &types, words)?;
-    groups.done.append(group)?;
+    let done = replace(&mut groups.done, TypedList::new(alloc));
+    groups.done = done.with_group(&types, words)?;
     Ok(rest)
 }
 
@@ -197,26 +180,24 @@ pub(crate) fn typed_list(
     alloc: Global,
     listed: Listed,
     items: &[Tree],
-) -> Result<List<Typed>, FormFault>
+) -> Result<TypedList, FormFault>
     ensures { Gives result (spec.typed_list listed (map seen items.now)) }
 {
     let mut groups = Groups {
-        done: List::new(alloc),
+        done: TypedList::new(alloc),
         open: List::new(alloc),
     };
     let mut items = items;
     while let [item, behind @ ..] = items {
         items = read_item(alloc, listed, &mut groups, item, behind)?;
     }
-    let Groups { mut done, open } = groups;
+    let Groups { done, open } = groups;
     let untyped = SharedList::from_list(List::new(alloc))?;
-    let last = with_types(alloc, &untyped, open)?;
-    done.append(last)?;
-    Ok(done)
+    Ok(done.with_group(&untyped, open)?)
 }
 
 /// Typed variables in brackets.
-pub(crate) fn variables(alloc: Global, tree: &Tree) -> Result<List<Typed>, FormFault>
+pub(crate) fn variables(alloc: Global, tree: &Tree) -> Result<TypedList, FormFault>
     ensures { Gives result (seen tree.now).variables }
 {
     match tree {
