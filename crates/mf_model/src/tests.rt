@@ -57,7 +57,14 @@ fn groups_share_their_types(rt: HostRuntime) -> Result<(), Fail> {
     assert!(rt; !list.shares_types(0));
     assert!(rt; list.shares_types(1));
     assert!(rt; !list.shares_types(2));
-    assert!(rt; list.as_slice()[1].types.as_slice()[0].text.as_slice() == b"r");
+    let mut texts = List::new(alloc);
+    for item in list.as_slice() {
+        texts.extend(item.word.text.as_slice())?;
+        for word in item.types.as_slice() {
+            texts.extend(word.text.as_slice())?;
+        }
+    }
+    assert_eq!(rt; texts.as_slice(), b"arbrcr".as_slice());
     Ok(())
 }
 

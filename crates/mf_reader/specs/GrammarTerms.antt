@@ -1,6 +1,6 @@
 -- The grammar of domains and problems, row by row (PDDL 2.1: Fox and Long, JAIR 2003, appendix A, in this
 -- planner's profile): words, types, typed lists, atoms and function terms.
-use Rattle.std.specs.Prelude.{◌≡◌, ◌≢◌, ℕ, ◌⊎◌, List, [], ◌∷◌, ◌++◌, map, codes}
+use Rattle.std.specs.Prelude.{◌≡◌, ◌≢◌, ℕ, ◌⊎◌, List, [], ◌∷◌, ◌++◌, codes}
 use Rattle.mf_model.specs.declared.token.Span.{Span}
 use Rattle.mf_model.specs.declared.tree.Tree.{Tree}
 use Rattle.mf_model.specs.declared.form.Word.{Word}

@@ -1,5 +1,6 @@
-ghost use Rattle.std.specs.Prelude.{◌≡◌, ◌≤◌, ◌∷◌, IfOk, length, map};
+ghost use Rattle.std.specs.Prelude.{◌≡◌, ◌≤◌, [], ◌∷◌, ◌++◌, IfOk, OnOk, length, map};
 ghost use Rattle.mf_reader.specs.Faces.{name_at};
+ghost use Rattle.mf_model.specs.TypedLists.{typed_as};
 ghost use Rattle.mf_reader.specs.Groups as reading;
 ghost use Rattle.mf_reader.specs.Said.{Gives, each, said};
 ghost use Rattle.mf_reader.specs.Seen.{seen};
@@ -8,7 +9,7 @@ ghost use Rattle.mf_reader.specs.Typed as spec;
 use crate::fault::FormFault;
 use crate::words::{has_text, name, span_of, variable};
 use mf_model::{List, SharedList, Span, Tree, TypedList, Word};
-use std::alloc::Global;
+use std::alloc::{AllocError, Global};
 use std::mem::replace;
 
 /// What a typed list lists.
@@ -129,6 +130,22 @@ struct Groups {
     open: List<Word>,
 }
 
+/// Gives the words of the group that is begun their types.
+fn close_group(
+    alloc: Global,
+    groups: &mut Groups,
+    types: &SharedList<Word>,
+) -> Result<(), AllocError>
+    ensures done { OnOk result
+        (groups.new.done ≡ groups.old.done ++ typed_as types.now groups.old.open) }
+    ensures open { OnOk result (groups.new.open ≡ []) }
+{
+    let words = replace(&mut groups.open, List::new(alloc));
+    let done = replace(&mut groups.done, TypedList::new(alloc));
+    groups.done = done.with_group(types, words)?;
+    Ok(())
+}
+
 /// Ends a group at the `-` behind its words, with the type behind that, and gives what follows.
 fn end_group<'a>(
     alloc: Global,
@@ -149,9 +166,7 @@ fn end_group<'a>(
     }
     let types = item_types(alloc, listed, tree)?;
     let types = SharedList::from_list(types)?;
-    let words = replace(&mut groups.open, List::new(alloc));
-    let done = replace(&mut groups.done, TypedList::new(alloc));
-    groups.done = done.with_group(&types, words)?;
+    close_group(alloc, groups, &types)?;
     Ok(rest)
 }
 
