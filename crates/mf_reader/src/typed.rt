@@ -138,7 +138,7 @@ fn close_group(
 ) -> Result<(), AllocError>
     ensures done { OnOk result
         (groups.new.done ≡ groups.old.done ++ typed_as types.now groups.old.open) }
-    ensures open { OnOk result (groups.new.open ≡ []) }
+    ensures begun { OnOk result (groups.new.open ≡ []) }
 {
     let words = replace(&mut groups.open, List::new(alloc));
     let done = replace(&mut groups.done, TypedList::new(alloc));
