@@ -9,6 +9,7 @@ pub mod FirstValues
 pub mod Firsts
 pub mod Found
 pub mod Given
+pub mod GroupTypes
 pub mod KeyLemmas
 pub mod Made
 pub mod Narrow

@@ -38,9 +38,12 @@ narrower : (most : ℕ) (ns : List ℕ) → most ≤ 10001 → AreBelow most ns 
 narrower most ns h all k d within = let here = all k d within in omega (arith, here, h)
 
 -- of few types, where there may be none
-pub narrow_row : (names : List (List ℕ)) → length names ≤ 10001 → (ws : List Word) → IsNarrow (types_of names ws)
+narrow_row : (names : List (List ℕ)) → length names ≤ 10001 → (ws : List Word) → IsNarrow (types_of names ws)
 narrow_row names h [] = All-cons (λ n. n < 65536) 0 [] (omega arith) (All-nil (λ n. n < 65536))
 narrow_row names h (w ∷ ws) = narrower (length names) (numbers_of names (w ∷ ws)) h (numbers_below names (w ∷ ws))
+
+pub narrow_items : (names : List (List ℕ)) → length names ≤ 10001 → (items : List Typed) → All IsNarrow (map (item_types names) items)
+narrow_items names h items = every IsNarrow (item_types names) (λ item. narrow_row names h item.types) items
 
 head_below : (most : ℕ) → 0 < most → (ns : List ℕ) → AreBelow most ns → head_or_zero ns < most
 head_below most h [] all = h

@@ -36,7 +36,7 @@ fn action(alloc: Global, tables: &Tables, raw: &RawAction) -> Result<Action, Ref
 {
     let binders = inside(alloc, &[], raw.parameters.as_slice())?;
     let name = raw.word.text.copy(alloc)?;
-    let parameters = types(alloc, tables, raw.parameters.as_slice())?;
+    let parameters = types(alloc, tables, &raw.parameters)?;
     let condition = condition(alloc, tables, binders.as_slice(), &raw.condition)?;
     match effect(alloc, tables, binders.as_slice(), &raw.effect) {
         Err(refusal) => {

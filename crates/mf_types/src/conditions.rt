@@ -10,7 +10,7 @@ use crate::least::Fault;
 use crate::quantified::variables;
 use crate::scope::{Variable, enter};
 use crate::site::Site;
-use mf_model::{RawCond, RawExpr, Typed, Word};
+use mf_model::{RawCond, RawExpr, TypedList, Word};
 use std::alloc::{AllocError, Global};
 
 /// The faults of two terms.
@@ -78,12 +78,12 @@ pub(crate) fn condition(
             variables,
             part,
             ..
-        } => quantifier(alloc, site, best, scope, variables.as_slice(), part.get()),
+        } => quantifier(alloc, site, best, scope, variables, part.get()),
         RawCond::Any {
             variables,
             part,
             ..
-        } => quantifier(alloc, site, best, scope, variables.as_slice(), part.get()),
+        } => quantifier(alloc, site, best, scope, variables, part.get()),
     }
 }
 
@@ -133,7 +133,7 @@ fn quantifier(
     site: &Site<'_>,
     best: Option<Fault>,
     scope: &mut Vec<Variable>,
-    items: &[Typed],
+    items: &TypedList,
     part: &RawCond,
 ) -> Result<Option<Fault>, AllocError>
     ensures value { IfOk result (λ b. b ≡ after best

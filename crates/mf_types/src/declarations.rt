@@ -15,7 +15,7 @@ use crate::start_values::start_values;
 use crate::tables::Tables;
 use crate::type_table::type_firsts;
 use crate::words::{action_words, header_words, item_words, kept_words};
-use mf_model::{Domain, FileKind, Header, Problem, RawAction, Typed};
+use mf_model::{Domain, FileKind, Header, Problem, RawAction, TypedList};
 use std::alloc::{AllocError, Global};
 
 const MOST_SYMBOLS: usize = 10_000;
@@ -42,13 +42,13 @@ pub(crate) fn declarations(
         file: FileKind::DomainFile,
         linear: true,
     };
-    let best = types(alloc, best, tables, domain.types.as_slice())?;
+    let best = types(alloc, best, tables, &domain.types)?;
     let best = objects(
         alloc,
         best,
         tables,
-        domain.constants.as_slice(),
-        problem.objects.as_slice(),
+        &domain.constants,
+        &problem.objects,
     )?;
     let best = headers(alloc, best, &site, domain.predicates.as_slice())?;
     let best = headers(alloc, best, &site, domain.functions.as_slice())?;
@@ -61,16 +61,16 @@ fn types(
     alloc: Global,
     best: Option<Fault>,
     tables: &Tables,
-    items: &[Typed],
+    items: &TypedList,
 ) -> Result<Option<Fault>, AllocError>
     ensures { IfOk result
         (λ fault. fault ≡ after best (spec.type_list_faults (declared_of tables.now) items.now)) }
 {
-    let words = kept_words(alloc, items)?;
+    let words = kept_words(alloc, items.as_slice())?;
     let best = repeats_alone(alloc, best, FileKind::DomainFile, words.as_slice())?;
-    let firsts = type_firsts(alloc, items)?;
+    let firsts = type_firsts(alloc, items.as_slice())?;
     let best = beyond(best, FileKind::DomainFile, MOST_SYMBOLS, firsts.as_slice());
-    cycles(alloc, best, tables, items)
+    cycles(alloc, best, tables, items.as_slice())
 }
 
 #[tactic(auto, using(crate::proofs::After::after_append))]
@@ -78,8 +78,8 @@ fn objects(
     alloc: Global,
     best: Option<Fault>,
     tables: &Tables,
-    constants: &[Typed],
-    objects: &[Typed],
+    constants: &TypedList,
+    objects: &TypedList,
 ) -> Result<Option<Fault>, AllocError>
     ensures { IfOk result
         (λ fault. fault ≡ after best
@@ -103,15 +103,15 @@ fn objects(
 fn object_names(
     alloc: Global,
     best: Option<Fault>,
-    constants: &[Typed],
-    objects: &[Typed],
+    constants: &TypedList,
+    objects: &TypedList,
 ) -> Result<Option<Fault>, AllocError>
     ensures { IfOk result
         (λ fault. fault ≡ after best
         (lists.object_list_faults (lists.item_words constants.now) (lists.item_words objects.now))) }
 {
-    let constants = item_words(alloc, constants)?;
-    let objects = item_words(alloc, objects)?;
+    let constants = item_words(alloc, constants.as_slice())?;
+    let objects = item_words(alloc, objects.as_slice())?;
     object_list_faults(alloc, best, constants.as_slice(), objects.as_slice())
 }
 
@@ -120,12 +120,12 @@ fn parameters(
     alloc: Global,
     best: Option<Fault>,
     site: &Site<'_>,
-    items: &[Typed],
+    items: &TypedList,
 ) -> Result<Option<Fault>, AllocError>
     ensures { IfOk result
         (λ fault. fault ≡ after best (spec.parameter_faults (site_of site.now) items.now)) }
 {
-    let words = item_words(alloc, items)?;
+    let words = item_words(alloc, items.as_slice())?;
     let best = list_faults(
         alloc,
         best,
@@ -170,7 +170,7 @@ fn header_parameters(
         (flat_map (spec.header_parameter_faults (site_of site.now)) headers.now)) }
 {
     for header in headers {
-        best = parameters(alloc, best, site, header.parameters.as_slice())?;
+        best = parameters(alloc, best, site, &header.parameters)?;
     }
     Ok(best)
 }
@@ -208,7 +208,7 @@ fn action_parameters(
         (flat_map (spec.action_parameter_faults (site_of site.now)) actions.now)) }
 {
     for action in actions {
-        best = parameters(alloc, best, site, action.parameters.as_slice())?;
+        best = parameters(alloc, best, site, &action.parameters)?;
     }
     Ok(best)
 }

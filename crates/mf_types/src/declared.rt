@@ -2,7 +2,7 @@ ghost use Rattle.std.specs.Prelude.{◌≡◌, [], ◌++◌, map, IfOk};
 ghost use Rattle.mf_types.specs.Names as spec;
 
 use crate::entering::{add_headers, add_items};
-use mf_model::{Header, List, SharedList, Typed};
+use mf_model::{Header, List, SharedList, TypedList};
 use mf_names::Names;
 use std::alloc::{AllocError, Global};
 
@@ -24,8 +24,8 @@ pub(crate) struct SymbolTable {
 pub(crate) fn object_table(
     alloc: Global,
     types: &Names,
-    constants: &[Typed],
-    objects: &[Typed],
+    constants: &TypedList,
+    objects: &TypedList,
 ) -> Result<ObjectTable, AllocError>
     ensures names { IfOk result
         (λ table. table.names

@@ -12,7 +12,7 @@ use crate::least::Fault;
 use crate::quantified::variables;
 use crate::scope::{Variable, enter};
 use crate::site::Site;
-use mf_model::{List, Op, RawCond, RawEffect, RawExpr, Span, Typed, Word};
+use mf_model::{List, Op, RawCond, RawEffect, RawExpr, Span, TypedList, Word};
 use std::alloc::{AllocError, Global};
 
 /// Whether an effect with such a value is linear: a scaling only by a constant.
@@ -87,7 +87,7 @@ pub(crate) fn effect(
             variables,
             part,
             ..
-        } => each(alloc, site, best, scope, variables.as_slice(), part.get()),
+        } => each(alloc, site, best, scope, variables, part.get()),
         RawEffect::When {
             condition,
             part,
@@ -141,7 +141,7 @@ fn each(
     site: &Site<'_>,
     best: Option<Fault>,
     scope: &mut Vec<Variable>,
-    items: &[Typed],
+    items: &TypedList,
     part: &RawEffect,
 ) -> Result<Option<Fault>, AllocError>
     ensures value { IfOk result (λ b. b ≡ after best

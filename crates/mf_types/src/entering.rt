@@ -2,8 +2,8 @@ ghost use Rattle.std.specs.Prelude.{◌≡◌, [], ◌∷◌, ◌++◌, map, not
 ghost use Rattle.mf_types.specs.Names as spec;
 ghost use Rattle.mf_types.specs.Tables.{entered};
 
-use crate::type_rows::TypeRows;
-use mf_model::{Header, List, SharedList, Text, Typed};
+use crate::item_types::types_of_items;
+use mf_model::{Header, List, SharedList, Text, Typed, TypedList};
 use mf_names::Names;
 use std::alloc::{AllocError, Global};
 
@@ -20,57 +20,41 @@ pub(crate) fn enter(alloc: Global, names: &mut Names, name: &Text) -> Result<boo
     Ok(true)
 }
 
-/// The types of each of some parameters.
-fn types_of_all<'w>(
-    alloc: Global,
-    rows: &mut TypeRows<'_, 'w>,
-    items: &'w [Typed],
-) -> Result<List<SharedList<usize>>, AllocError>
-    ensures same { rows.new ≡ rows.old }
-    ensures types { IfOk result (λ all. all ≡ map (spec.item_types rows.old) items.now) }
-{
-    let mut out = List::new(alloc);
-    for item in items {
-        out.push(rows.types_of(alloc, item.types.as_slice())?)?;
-    }
-    Ok(out)
-}
-
 /// Enters the names of items that are new, with their types.
 pub(crate) fn add_items(
     alloc: Global,
     types: &Names,
     names: &mut Names,
     out: &mut List<SharedList<usize>>,
-    items: &[Typed],
+    items: &TypedList,
 ) -> Result<(), AllocError>
     ensures names { OnOk result (names.new ≡ entered names.old (map spec.item_text items.now)) }
     ensures types { OnOk result
         (out.new ≡ out.old ++ map (spec.item_types types.now)
         (spec.firsts spec.item_text names.old items.now)) }
 {
-    let mut rows = TypeRows::new(alloc, types)?;
-    for item in items {
-        add_item(alloc, &mut rows, names, out, item)?;
+    let rows = types_of_items(alloc, types, items)?;
+    for (n, item) in items.as_slice().iter().enumerate() {
+        add_item(alloc, names, out, item, &rows.as_slice()[n])?;
     }
     Ok(())
 }
 
-pub(crate) fn add_item<'w>(
+/// Enters the name of an item with these types, if it is new.
+pub(crate) fn add_item(
     alloc: Global,
-    rows: &mut TypeRows<'_, 'w>,
     names: &mut Names,
     out: &mut List<SharedList<usize>>,
-    item: &'w Typed,
+    item: &Typed,
+    types: &SharedList<usize>,
 ) -> Result<(), AllocError>
-    ensures same { rows.new ≡ rows.old }
     ensures names { OnOk result (names.new ≡ entered names.old (item.now.word.text ∷ [])) }
     ensures types { OnOk result
-        (out.new ≡ out.old ++ map (spec.item_types rows.old)
+        (out.new ≡ out.old ++ map (λ one. types.now)
         (spec.firsts spec.item_text names.old (item.now ∷ []))) }
 {
     if enter(alloc, names, &item.word.text)? {
-        out.push(rows.types_of(alloc, item.types.as_slice())?)?;
+        out.push(types.share()?)?;
     }
     Ok(())
 }
@@ -88,28 +72,26 @@ pub(crate) fn add_headers(
         (out.new ≡ out.old ++ map (spec.header_types types.now)
         (spec.firsts spec.header_text names.old headers.now)) }
 {
-    let mut rows = TypeRows::new(alloc, types)?;
     for header in headers {
-        add_header(alloc, &mut rows, names, out, header)?;
+        add_header(alloc, types, names, out, header)?;
     }
     Ok(())
 }
 
-fn add_header<'w>(
+fn add_header(
     alloc: Global,
-    rows: &mut TypeRows<'_, 'w>,
+    types: &Names,
     names: &mut Names,
     out: &mut List<List<SharedList<usize>>>,
-    header: &'w Header,
+    header: &Header,
 ) -> Result<(), AllocError>
-    ensures same { rows.new ≡ rows.old }
     ensures names { OnOk result (names.new ≡ entered names.old (header.now.word.text ∷ [])) }
     ensures types { OnOk result
-        (out.new ≡ out.old ++ map (spec.header_types rows.old)
+        (out.new ≡ out.old ++ map (spec.header_types types.now)
         (spec.firsts spec.header_text names.old (header.now ∷ []))) }
 {
     if enter(alloc, names, &header.word.text)? {
-        out.push(types_of_all(alloc, rows, header.parameters.as_slice())?)?;
+        out.push(types_of_items(alloc, types, &header.parameters)?)?;
     }
     Ok(())
 }

@@ -28,7 +28,7 @@ mod scope;
 mod site;
 mod start_values;
 mod tables;
-mod type_rows;
+mod item_types;
 mod type_table;
 mod uses;
 mod words;

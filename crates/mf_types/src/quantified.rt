@@ -7,9 +7,8 @@ ghost use Rattle.mf_types.specs.Sites.{site_of};
 use crate::least::{Fault, FaultKind, at_word};
 use crate::listing::{beyond_behind, repeats_alone};
 use crate::site::Site;
-use crate::type_rows::are_same;
 use crate::words::item_words;
-use mf_model::{Typed, Word};
+use mf_model::{TypedList, Word};
 use std::alloc::{AllocError, Global};
 
 /// The most variables in scope: parameters, and variables of quantifiers, hidden ones too.
@@ -22,29 +21,28 @@ pub(crate) fn variables(
     site: &Site<'_>,
     best: Option<Fault>,
     outer: usize,
-    items: &[Typed],
+    items: &TypedList,
 ) -> Result<Option<Fault>, AllocError>
     ensures { IfOk result (λ b. b ≡ after best
         (spec.variable_faults (site_of site.now) outer items.now)) }
 {
-    let words = item_words(alloc, items)?;
+    let words = item_words(alloc, items.as_slice())?;
     let best = repeats_alone(alloc, best, site.file, words.as_slice())?;
     let best = beyond_behind(best, site.file, MOST_VARIABLES, outer, words.as_slice());
     Ok(item_types(site, best, items))
 }
 
-/// The faults of the types of items. Neighbours of the same words, as those of a group, are
-/// looked at once.
-#[tactic(auto, using(crate::proofs::After::after_append))]
-pub(crate) fn item_types(site: &Site<'_>, mut best: Option<Fault>, items: &[Typed]) -> Option<Fault>
+/// The faults of the types of items, where those of a group are looked at once.
+pub(crate) fn item_types(
+    site: &Site<'_>,
+    mut best: Option<Fault>,
+    items: &TypedList,
+) -> Option<Fault>
     ensures { result ≡ after best (flat_map (spec.item_faults (site_of site.now)) items.now) }
 {
-    let mut seen: &[Word] = &[];
-    for item in items {
-        let words = item.types.as_slice();
-        if !are_same(seen, words) {
-            best = type_words(site, best, words);
-            seen = words;
+    for (n, item) in items.as_slice().iter().enumerate() {
+        if !items.shares_types(n) {
+            best = type_words(site, best, item.types.as_slice());
         }
     }
     best

@@ -35,12 +35,12 @@ impl Tables {
     ) -> Result<Tables, AllocError>
         ensures { IfOk result (λ tables. declared_of tables ≡ declared_by domain.now problem.now) }
     {
-        let types = type_table(alloc, domain.types.as_slice())?;
+        let types = type_table(alloc, &domain.types)?;
         let objects = object_table(
             alloc,
             &types.names,
-            domain.constants.as_slice(),
-            problem.objects.as_slice(),
+            &domain.constants,
+            &problem.objects,
         )?;
         let predicates = symbol_table(alloc, &types.names, domain.predicates.as_slice())?;
         let functions = symbol_table(alloc, &types.names, domain.functions.as_slice())?;

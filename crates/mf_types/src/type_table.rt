@@ -3,9 +3,9 @@ ghost use Rattle.mf_types.specs.Names as spec;
 ghost use Rattle.mf_types.specs.Tables.{entered, parent_by, pointed};
 
 use crate::entering::{add_item, enter};
+use crate::item_types::types_of_items;
 use crate::kept::says_nothing;
-use crate::type_rows::TypeRows;
-use mf_model::{List, SharedList, Text, Typed, Word};
+use mf_model::{List, SharedList, Text, Typed, TypedList, Word};
 use mf_names::Names;
 use std::alloc::{AllocError, Global};
 
@@ -96,11 +96,11 @@ pub(crate) struct TypeTable {
     pub(crate) parents: List<usize>,
 }
 
-pub(crate) fn type_table(alloc: Global, items: &[Typed]) -> Result<TypeTable, AllocError>
+pub(crate) fn type_table(alloc: Global, items: &TypedList) -> Result<TypeTable, AllocError>
     ensures names { IfOk result (λ table. table.names ≡ spec.type_names items.now) }
     ensures parents { IfOk result (λ table. table.parents ≡ spec.parents_of items.now) }
 {
-    let words = type_words(alloc, items)?;
+    let words = type_words(alloc, items.as_slice())?;
     let mut names = object_alone(alloc)?;
     let firsts = add_words(alloc, &mut names, words.as_slice())?;
     let mut own = Names::new(alloc);
@@ -124,7 +124,7 @@ fn add_kept(
     types: &Names,
     names: &mut Names,
     out: &mut List<SharedList<usize>>,
-    items: &[Typed],
+    items: &TypedList,
 ) -> Result<(), AllocError>
     ensures names { OnOk result
         (names.new ≡ entered names.old (map spec.item_text (spec.kept_types items.now))) }
@@ -132,31 +132,30 @@ fn add_kept(
         (out.new ≡ out.old ++ map (spec.item_types types.now)
         (spec.firsts spec.item_text names.old (spec.kept_types items.now))) }
 {
-    let mut rows = TypeRows::new(alloc, types)?;
-    for item in items {
-        add_if_kept(alloc, &mut rows, names, out, item)?;
+    let rows = types_of_items(alloc, types, items)?;
+    for (n, item) in items.as_slice().iter().enumerate() {
+        add_if_kept(alloc, names, out, item, &rows.as_slice()[n])?;
     }
     Ok(())
 }
 
-fn add_if_kept<'w>(
+fn add_if_kept(
     alloc: Global,
-    rows: &mut TypeRows<'_, 'w>,
     names: &mut Names,
     out: &mut List<SharedList<usize>>,
-    item: &'w Typed,
+    item: &Typed,
+    types: &SharedList<usize>,
 ) -> Result<(), AllocError>
-    ensures same { rows.new ≡ rows.old }
     ensures names { OnOk result
         (names.new ≡ entered names.old (map spec.item_text (spec.kept_types (item.now ∷ [])))) }
     ensures types { OnOk result
-        (out.new ≡ out.old ++ map (spec.item_types rows.old)
+        (out.new ≡ out.old ++ map (λ one. types.now)
         (spec.firsts spec.item_text names.old (spec.kept_types (item.now ∷ [])))) }
 {
     if says_nothing(item) {
         return Ok(());
     }
-    add_item(alloc, rows, names, out, item)
+    add_item(alloc, names, out, item, types)
 }
 
 // The parent of `object`, and of each of the words, by the first items of a name and their types.

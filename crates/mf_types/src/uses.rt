@@ -83,7 +83,7 @@ fn uses_of_action(
         alloc,
         &site.tables.types,
         &mut scope,
-        action.parameters.as_slice(),
+        &action.parameters,
     )?;
     let best = body(alloc, site, best, &mut scope, action)?;
     Ok(best)

@@ -5,11 +5,12 @@ ghost use Rattle.mf_types.specs.Tables.{declared_of};
 ghost use Rattle.mf_types.specs.Tasks.{AreFew};
 ghost use Rattle.mf_types.specs.Typing as spec;
 
+use super::declarations::narrow_all;
 use super::narrow_rows::NarrowRows;
+use crate::item_types::types_of_items;
 use crate::refusal::Refusal;
 use crate::tables::Tables;
-use crate::type_rows::TypeRows;
-use mf_model::{List, Text, Typed, Types};
+use mf_model::{List, Text, Typed, TypedList, Types};
 use std::alloc::{AllocError, Global};
 
 // The most variables in scope.
@@ -56,21 +57,16 @@ pub(crate) fn inside(
 }
 
 /// The declared types of each item.
-#[tactic(auto, using(crate::proofs::Narrow::narrow_row))]
+#[tactic(auto, using(crate::proofs::Narrow::narrow_items))]
 pub(crate) fn types(
     alloc: Global,
     tables: &Tables,
-    items: &[Typed],
+    items: &TypedList,
 ) -> Result<List<Types>, AllocError>
     requires few { AreFew (declared_of tables.now) }
     ensures { IfOk result (λ types. types ≡ spec.types_in (declared_of tables.now) items.now) }
 {
-    let mut out = List::new(alloc);
-    let mut rows = TypeRows::new(alloc, &tables.types)?;
+    let rows = types_of_items(alloc, &tables.types, items)?;
     let mut narrow_rows = NarrowRows::new(alloc)?;
-    for item in items {
-        let numbers = rows.types_of(alloc, item.types.as_slice())?;
-        out.push(narrow_rows.narrow(alloc, &numbers)?)?;
-    }
-    Ok(out)
+    narrow_all(alloc, &mut narrow_rows, rows.as_slice())
 }

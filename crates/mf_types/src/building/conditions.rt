@@ -10,7 +10,7 @@ use super::expressions::expression;
 use super::leaves::{predicate, term, terms};
 use crate::refusal::Refusal;
 use crate::tables::Tables;
-use mf_model::{Cond, Expr, RawCond, RawExpr, Relation, Text, Typed, Word};
+use mf_model::{Cond, Expr, RawCond, RawExpr, Relation, Text, TypedList, Word};
 use sqlite_items::{Boxed, Items};
 use std::alloc::Global;
 
@@ -107,12 +107,12 @@ pub(crate) fn condition(
             variables,
             part,
             ..
-        } => universal(alloc, tables, binders, variables.as_slice(), part.get()),
+        } => universal(alloc, tables, binders, variables, part.get()),
         RawCond::Any {
             variables,
             part,
             ..
-        } => existential(alloc, tables, binders, variables.as_slice(), part.get()),
+        } => existential(alloc, tables, binders, variables, part.get()),
     }
 }
 
@@ -195,7 +195,7 @@ fn universal(
     alloc: Global,
     tables: &Tables,
     binders: &[Text],
-    variables: &[Typed],
+    variables: &TypedList,
     raw: &RawCond,
 ) -> Result<Cond, Refusal>
     requires few { AreFew (declared_of tables.now) }
@@ -216,7 +216,7 @@ fn existential(
     alloc: Global,
     tables: &Tables,
     binders: &[Text],
-    variables: &[Typed],
+    variables: &TypedList,
     raw: &RawCond,
 ) -> Result<Cond, Refusal>
     requires few { AreFew (declared_of tables.now) }
@@ -253,14 +253,14 @@ fn inner(
     alloc: Global,
     tables: &Tables,
     binders: &[Text],
-    variables: &[Typed],
+    variables: &TypedList,
     raw: &RawCond,
 ) -> Result<Boxed<Cond>, Refusal>
     requires few { AreFew (declared_of tables.now) }
     requires room { length binders.now ≤ 64 }
     ensures { Gives result (spec.within variables.now (spec.cond_of (declared_of tables.now) raw.now) binders.now) }
 {
-    let inner = inside(alloc, binders, variables)?;
+    let inner = inside(alloc, binders, variables.as_slice())?;
     boxed(alloc, tables, inner.as_slice(), raw)
 }
 

@@ -7,7 +7,7 @@ use mf_names::Names;
 use std::alloc::{AllocError, Global};
 
 /// The types of each parameter in 16 bits.
-fn narrow_all(
+pub(crate) fn narrow_all(
     alloc: Global,
     rows: &mut NarrowRows,
     lists: &[SharedList<usize>],

@@ -11,7 +11,7 @@ use super::expressions::expression;
 use super::leaves::{function, predicate, terms};
 use crate::refusal::Refusal;
 use crate::tables::Tables;
-use mf_model::{Cond, Effect, List, Op, RawCond, RawEffect, RawExpr, Text, Typed, Word};
+use mf_model::{Cond, Effect, List, Op, RawCond, RawEffect, RawExpr, Text, TypedList, Word};
 use sqlite_items::{Boxed, Items};
 use std::alloc::Global;
 
@@ -119,7 +119,7 @@ pub(crate) fn effect(
             variables,
             part,
             ..
-        } => each(alloc, tables, binders, variables.as_slice(), part.get()),
+        } => each(alloc, tables, binders, variables, part.get()),
         RawEffect::When {
             condition,
             part,
@@ -149,7 +149,7 @@ fn each(
     alloc: Global,
     tables: &Tables,
     binders: &[Text],
-    variables: &[Typed],
+    variables: &TypedList,
     raw: &RawEffect,
 ) -> Result<Effect, Refusal>
     requires few { AreFew (declared_of tables.now) }
@@ -205,14 +205,14 @@ fn inner(
     alloc: Global,
     tables: &Tables,
     binders: &[Text],
-    variables: &[Typed],
+    variables: &TypedList,
     raw: &RawEffect,
 ) -> Result<Boxed<Effect>, Refusal>
     requires few { AreFew (declared_of tables.now) }
     requires room { length binders.now ≤ 64 }
     ensures { Gives result (spec.within variables.now (spec.effect_of (declared_of tables.now) raw.now) binders.now) }
 {
-    let inner = inside(alloc, binders, variables)?;
+    let inner = inside(alloc, binders, variables.as_slice())?;
     boxed(alloc, tables, inner.as_slice(), raw)
 }
 

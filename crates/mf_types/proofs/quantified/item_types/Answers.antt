@@ -1,27 +1,35 @@
-use Rattle.std.proofs.Common.{rules, ◌≡◌}
-use Rattle.std.specs.List.{flat_map}
-use Rattle.mf_types.specs.Quantified.{type_word_faults}
+use Rattle.std.proofs.Common.{rules, ◌≡◌, ◌<◌, length, get_or, ap, ◌∙◌}
+use Rattle.mf_model.specs.TypedLists.{IsAlike}
+use Rattle.mf_types.specs.Faults.{after}
+use Rattle.mf_types.specs.Quantified.{item_faults}
 use Rattle.mf_types.specs.Sites.{site_of}
-use Rattle.mf_types.proofs.TypeWords.{all_found, one_more, one_seen}
+use Rattle.mf_types.proofs.TypeWords.{word_faults, all_found, same_found, same_more}
+use Rattle.mf_types.proofs.Walks.{items_more}
 use Rattle.mf_types.proofs.quantified.item_types.Goals as goal
-use Rattle.mf_types.proofs.quantified.item_types.Goals.{then-not-are_same, else-not-are_same}
+use Rattle.mf_types.proofs.quantified.item_types.Goals.{then-not-shares_types, else-not-shares_types}
 
-pub loop-item-preserved : goal.loop-item-preserved
-loop-item-preserved c =
+pub loop-n-preserved : goal.loop-n-preserved
+loop-n-preserved c =
     let site = site_of c.args.site.now in
-    let words = c.as_slice-words.result.now in
-    elim c.if-not-are_same.branch [
-      | then-not-are_same w ↦
-          rw (w.best-is, w.seen-is)
+    let items = c.args.items.now in
+    let n = c.loop-n.n in
+    let item = c.item-item.result in
+    let within : n < length items = search rules in
+    let is : item ≡ get_or items n item = search rules in
+    elim c.if-not-shares_types.branch [
+      | then-not-shares_types w ↦
+          let step : w.type_words-best.result ≡ after c.loop-n.best (word_faults site item.types) =
+              w.type_words-best.ensures ∙ ap (λ ws. after c.loop-n.best (word_faults site ws)) w.as_slice.ensures in
+          rw (w.best-is)
           record {
-            best = one_more site c.args.items.now c.loop-item.item-index c.item-item.result words _ _ _ c.loop-item-test.true c.item-item.is c.as_slice-words.ensures w.type_words-best.ensures c.loop-item.invariant.best;
-            seen = all_found (flat_map (type_word_faults site) words) _ _ w.type_words-best.ensures;
+            best = items_more (item_faults site) items n item _ _ _ within is step c.loop-n.invariant.best;
+            found = all_found site items n item _ _ within is step;
           }
-      | else-not-are_same w ↦
-          let same : c.loop-item.seen.now ≡ words = search rules in
-          rw (w.best-is, w.seen-is)
+      | else-not-shares_types w ↦
+          let alike : IsAlike items n = search rules in
+          rw (w.best-is)
           record {
-            best = one_seen site c.args.items.now c.loop-item.item-index c.item-item.result words c.loop-item.seen.now _ _ c.loop-item-test.true c.item-item.is c.as_slice-words.ensures same c.loop-item.invariant.seen c.loop-item.invariant.best;
-            seen = c.loop-item.invariant.seen;
+            best = same_more site items n item _ _ within is alike c.loop-n.invariant.found c.loop-n.invariant.best;
+            found = same_found site items n _ alike c.loop-n.invariant.found;
           }
     ]
