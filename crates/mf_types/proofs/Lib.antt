@@ -1,5 +1,6 @@
 pub mod After
 pub mod Ascent
+pub mod Depths
 pub mod EndZeros
 pub mod Examples
 pub mod Faultless

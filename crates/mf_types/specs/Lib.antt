@@ -11,6 +11,7 @@ pub mod Faults
 pub mod Gives
 pub mod Limits
 pub mod Names
+pub mod Places
 pub mod Quantified
 pub mod Related
 pub mod Resolved

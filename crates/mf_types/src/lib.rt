@@ -1,6 +1,7 @@
 //! Names, types and numbers: the typed task of a domain and a problem.
 #![tactic(auto)]
 
+mod ancestry;
 mod arguments;
 mod building;
 mod changed;
@@ -20,6 +21,7 @@ mod least;
 mod listing;
 mod marks;
 mod meaning;
+mod places;
 mod quantified;
 mod refusal;
 mod relation;

@@ -3,30 +3,41 @@ ghost use Rattle.std.specs.List.{list_any};
 ghost use Rattle.mf_types.specs.Marks.{is_marked};
 ghost use Rattle.mf_types.specs.Related as spec;
 
+use crate::ancestry::Ancestry;
 use crate::marks::{is_some_marked, mark_above};
-use mf_model::descends;
 use std::alloc::Global;
 
-/// Whether some type of the one list is equal to, above or below some type of the other, in a
-/// table with the number of each type's parent.
+/// Whether some type of the one list is equal to, above or below some type of the other.
 ///
-/// Where there are several, they are marked first with all above them, so that the time is that of
-/// both lists and the table. Where there is no memory for the marks, each is compared with each.
+/// Few types are compared each with each, by jumps. Where there are many, they are marked first
+/// with all above them, so that the time is that of both lists and the table. Where there is no
+/// memory for the marks, each is compared with each.
 pub(crate) fn are_related(
     alloc: Global,
-    parents: &[usize],
+    ancestry: &Ancestry,
     types: &[usize],
     others: &[usize],
 ) -> bool
-    ensures { result ≡ spec.are_related parents.now types.now others.now }
+    ensures { result ≡ spec.are_related ancestry.now types.now others.now }
 {
-    if types.len() <= 1 && others.len() <= 1 {
-        return is_some_related(parents, types, others);
+    if are_few(ancestry, types, others) {
+        return is_some_related(ancestry, types, others);
     }
-    match are_related_by_marks(alloc, parents, types, others) {
+    match are_related_by_marks(alloc, ancestry.as_slice(), types, others) {
         Some(are_related) => are_related,
-        None => is_some_related(parents, types, others),
+        None => is_some_related(ancestry, types, others),
     }
+}
+
+// Whether it is quicker to compare each with each than to mark.
+fn are_few(ancestry: &Ancestry, types: &[usize], others: &[usize]) -> bool {
+    let pairs = types.len().saturating_mul(others.len());
+    if pairs <= 1 {
+        return true;
+    }
+    pairs <= ancestry.as_slice().len() / 64 + 16
+        && ancestry.has_jumps(types)
+        && ancestry.has_jumps(others)
 }
 
 #[tactic(auto, using(crate::proofs::ByMarks::related_by_marks))]
@@ -57,23 +68,23 @@ fn is_either_marked(
     is_some_marked(above, others) || is_some_marked(above_others, types)
 }
 
-fn is_some_related(parents: &[usize], types: &[usize], others: &[usize]) -> bool
-    ensures { result ≡ spec.are_related parents.now types.now others.now }
+fn is_some_related(ancestry: &Ancestry, types: &[usize], others: &[usize]) -> bool
+    ensures { result ≡ spec.are_related ancestry.now types.now others.now }
 {
     types
         .iter()
-        .any(|own| is_related_to_one(parents, *own, others))
+        .any(|own| is_related_to_one(ancestry, *own, others))
 }
 
-fn is_related_to_one(parents: &[usize], own: usize, others: &[usize]) -> bool
-    ensures { result ≡ list_any (λ other. spec.is_related parents.now own other) others.now }
+fn is_related_to_one(ancestry: &Ancestry, own: usize, others: &[usize]) -> bool
+    ensures { result ≡ list_any (λ other. spec.is_related ancestry.now own other) others.now }
 {
-    others.iter().any(|other| is_related(parents, own, *other))
+    others.iter().any(|other| is_related(ancestry, own, *other))
 }
 
 // Whether one of two types is the other, or descends from it.
-fn is_related(parents: &[usize], own: usize, other: usize) -> bool
-    ensures { result ≡ spec.is_related parents.now own other }
+fn is_related(ancestry: &Ancestry, own: usize, other: usize) -> bool
+    ensures { result ≡ spec.is_related ancestry.now own other }
 {
-    descends(parents, own, other) || descends(parents, other, own)
+    ancestry.descends(own, other) || ancestry.descends(other, own)
 }

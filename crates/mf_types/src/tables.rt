@@ -4,6 +4,7 @@ ghost use Rattle.mf_types.specs.Names.{declared_by, is_member};
 ghost use Rattle.mf_types.specs.Related as related;
 ghost use Rattle.mf_types.specs.Tables.{declared_of};
 
+use crate::ancestry::Ancestry;
 use crate::changed::changed;
 use crate::declared::{object_table, symbol_table};
 use crate::relation::are_related;
@@ -17,7 +18,7 @@ use std::alloc::{AllocError, Global};
 #[derive(Debug, Drop)]
 pub(crate) struct Tables {
     pub(crate) types: Names,
-    pub(crate) parents: List<usize>,
+    pub(crate) parents: Ancestry,
     pub(crate) objects: Names,
     pub(crate) object_types: List<SharedList<usize>>,
     pub(crate) predicates: Names,
@@ -47,7 +48,7 @@ impl Tables {
         let changed = changed(alloc, domain.actions.as_slice())?;
         Ok(Tables {
             types: types.names,
-            parents: types.parents,
+            parents: Ancestry::new(alloc, types.parents),
             objects: objects.names,
             object_types: objects.types,
             predicates: predicates.names,
@@ -132,6 +133,6 @@ impl Tables {
         ensures { result ≡ related.are_related self.now.parents types.now others.now }
     {
         let alloc = self.parents.allocator();
-        are_related(alloc, self.parents.as_slice(), types, others)
+        are_related(alloc, &self.parents, types, others)
     }
 }
