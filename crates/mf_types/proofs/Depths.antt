@@ -1,5 +1,5 @@
 -- Depths of types, ancestors at smaller depths, and the places that tell them.
-use Rattle.std.proofs.Common.{◌≡◌, ◌≢◌, ℕ, zero, suc, ◌+◌, ◌-◌, ◌<◌, ◌≤◌, Bool, true, false, ◌||◌, if◌then◌else◌, nat_eq, Option, Some, None, IfSome, List, [], length, set, refl, sym, subst, ap, ◌∙◌, arith}
+use Rattle.std.proofs.Common.{◌≡◌, ◌≢◌, ℕ, zero, suc, ◌+◌, ◌-◌, ◌<◌, ◌≤◌, Bool, true, false, ◌||◌, if◌then◌else◌, nat_eq, Option, Some, None, IfSome, List, [], length, set, replicate, refl, sym, subst, ap, ◌∙◌, arith}
 use Rattle.std.proofs.lemmas.Bool.Decides.{Decides-eqb, nat_tests}
 use Rattle.std.proofs.lemmas.List.{get_or-set_other, get_or-set_same}
 use Rattle.mf_model.specs.Objects.{ancestors, member}
@@ -44,6 +44,9 @@ differ parents d e t u a b apart same = apart (depth_is_one parents d e u (subst
 apart : (t u : ℕ) → t ≢ u → nat_eq u t ≡ false
 apart t u h = grind (arith, nat_tests)
 
+turned : (t u : ℕ) → nat_eq t u ≡ nat_eq u t
+turned t u = grind (arith, nat_tests)
+
 alone : (parents : List ℕ) (n t u : ℕ) → t ≡ 0 → member u (ancestors parents (suc n) t) ≡ nat_eq u t
 alone parents n t u top =
     ap (λ (s : ℕ). member u (ancestors parents (suc n) s)) top ∙ (or_nothing (nat_eq u 0) ∙ ap (nat_eq u) (sym top))
@@ -80,9 +83,10 @@ ancestor_at parents (suc n) (suc d) (suc k) e t u a b is few =
 pub descends_not : (parents : List ℕ) (t u : ℕ) (from to : Place) → IsPlace parents t from → IsPlace parents u to → from.depth < to.depth → descends parents t u ≡ false
 descends_not parents t u from to a b less = no_ancestor_below parents (length parents) from.depth to.depth t u a.depth b.depth less
 
-pub descends_where : (parents : List ℕ) (t u : ℕ) (from to : Place) → IsPlace parents t from → IsPlace parents u to → to.depth ≤ from.depth → descends parents t u ≡ nat_eq u (up parents (from.depth - to.depth) t)
+pub descends_where : (parents : List ℕ) (t u : ℕ) (from to : Place) → IsPlace parents t from → IsPlace parents u to → to.depth ≤ from.depth → descends parents t u ≡ nat_eq (up parents (from.depth - to.depth) t) u
 descends_where parents t u from to a b above =
     ancestor_at parents (length parents) from.depth (from.depth - to.depth) to.depth t u a.depth b.depth (omega (arith, above)) a.few
+    ∙ turned u (up parents (from.depth - to.depth) t)
 
 -- Going up
 
@@ -116,26 +120,26 @@ jump_is_ancestor parents from place above h some own other =
       there = ap (λ (n : ℕ). up parents n from.number) steps ∙ way.there;
     }
 
-pub record IsClimbing (parents : List ℕ) (from : Ancestor) (depth : ℕ) (current : Ancestor) : Type 0 where
+pub record IsClimbing (parents : List ℕ) (from : Ancestor) (wanted : ℕ) (current : Ancestor) : Type 0 where
   pub depth : HasDepth parents current.depth current.number
-  pub above : depth ≤ current.depth
-  pub there : up parents (current.depth - depth) current.number ≡ up parents (from.depth - depth) from.number
+  pub above : wanted ≤ current.depth
+  pub there : up parents (current.depth - wanted) current.number ≡ up parents (from.depth - wanted) from.number
 
-pub climb_goes_on : (parents : List ℕ) (from : Ancestor) (depth : ℕ) (current next : Ancestor) → IsClimbing parents from depth current → IsAncestor parents current next → depth ≤ next.depth → IsClimbing parents from depth next
-climb_goes_on parents from depth current next climbing step above =
+pub climb_goes_on : (parents : List ℕ) (from : Ancestor) (wanted : ℕ) (current next : Ancestor) → IsClimbing parents from wanted current → IsAncestor parents current next → wanted ≤ next.depth → IsClimbing parents from wanted next
+climb_goes_on parents from wanted current next climbing step above =
     let less = step.less in
     record {
       depth = step.depth;
       above = above;
       there =
-          ap (up parents (next.depth - depth)) (sym step.there)
-          ∙ (sym (up_further parents (current.depth - depth) (current.depth - next.depth) (next.depth - depth) current.number (omega (arith, less, above)))
+          ap (up parents (next.depth - wanted)) (sym step.there)
+          ∙ (sym (up_further parents (current.depth - wanted) (current.depth - next.depth) (next.depth - wanted) current.number (omega (arith, less, above)))
           ∙ climbing.there);
     }
 
-pub climb_ends : (parents : List ℕ) (from : Ancestor) (depth : ℕ) (current : Ancestor) → IsClimbing parents from depth current → current.depth ≤ depth → current.number ≡ up parents (from.depth - depth) from.number
-climb_ends parents from depth current climbing low =
-    let none : 0 ≡ current.depth - depth = omega (arith, low) in
+pub climb_ends : (parents : List ℕ) (from : Ancestor) (wanted : ℕ) (current : Ancestor) → IsClimbing parents from wanted current → current.depth ≤ wanted → current.number ≡ up parents (from.depth - wanted) from.number
+climb_ends parents from wanted current climbing low =
+    let none : 0 ≡ current.depth - wanted = omega (arith, low) in
     ap (λ (n : ℕ). up parents n current.number) none ∙ climbing.there
 
 -- New places
@@ -188,3 +192,11 @@ one_place_more parents places i place all own within t = by (nat_eq t i) refl
     by false e =
         let other = get_or-set_other places i t place None (λ same. let yes = (Decides-eqb t i).1 same in let no : ⊥ = cc in no) in
         subst (λ (p : Option Place). IfSome p (IsPlace parents t)) (sym other) (all t)
+
+nothing_at : (n t : ℕ) → place_at (replicate n None) t ≡ None
+nothing_at zero t = refl
+nothing_at (suc n) zero = refl
+nothing_at (suc n) (suc t) = nothing_at n t
+
+pub no_place : (parents : List ℕ) (n : ℕ) → ArePlaces parents (replicate n None)
+no_place parents n t = subst (λ (place : Option Place). IfSome place (IsPlace parents t)) (sym (nothing_at n t)) tt

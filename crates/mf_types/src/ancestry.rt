@@ -74,7 +74,6 @@ impl Ancestry {
         }
     }
 
-    #[tactic(auto, using(crate::proofs::Depths::descends_not, crate::proofs::Depths::descends_where))]
     fn climbs_to(&self, own: usize, from: Place, other: usize, to: Place) -> bool
         requires from { spec.IsPlace self.now own from }
         requires to { spec.IsPlace self.now other to }

@@ -13,6 +13,7 @@ pub(crate) struct Place {
 
 /// The places of the types in a table with the number of each type's parent. A type from which
 /// the way up doesn't lead to type 0 has none. The time is that of the table.
+#[tactic(auto, using(crate::proofs::Depths::no_place))]
 pub(crate) fn places(alloc: Global, parents: &[usize]) -> Result<Vec<Option<Place>>, AllocError>
     ensures { IfOk result (λ places. spec.ArePlaces parents.now places.items) }
 {

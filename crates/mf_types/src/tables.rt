@@ -48,7 +48,7 @@ impl Tables {
         let changed = changed(alloc, domain.actions.as_slice())?;
         Ok(Tables {
             types: types.names,
-            parents: Ancestry::new(alloc, types.parents),
+            parents: types.parents,
             objects: objects.names,
             object_types: objects.types,
             predicates: predicates.names,

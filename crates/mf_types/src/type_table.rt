@@ -2,6 +2,7 @@ ghost use Rattle.std.specs.Prelude.{◌≡◌, [], ◌∷◌, ◌++◌, map, IfO
 ghost use Rattle.mf_types.specs.Names as spec;
 ghost use Rattle.mf_types.specs.Tables.{entered, parent_by, pointed};
 
+use crate::ancestry::Ancestry;
 use crate::entering::{add_item, enter};
 use crate::item_types::types_of_items;
 use crate::kept::says_nothing;
@@ -93,7 +94,7 @@ pub(crate) fn type_firsts<'a>(
 #[derive(Debug, Drop)]
 pub(crate) struct TypeTable {
     pub(crate) names: Names,
-    pub(crate) parents: List<usize>,
+    pub(crate) parents: Ancestry,
 }
 
 pub(crate) fn type_table(alloc: Global, items: &TypedList) -> Result<TypeTable, AllocError>
@@ -164,7 +165,7 @@ fn parents(
     words: &[&Word],
     own: &Names,
     types: &[SharedList<usize>],
-) -> Result<List<usize>, AllocError>
+) -> Result<Ancestry, AllocError>
     ensures { IfOk result
         (λ parents. parents
         ≡ map (parent_by own.now types.now)
@@ -175,7 +176,7 @@ fn parents(
     for word in words {
         parents.push(parent_of(own, types, word.text.as_slice()))?;
     }
-    Ok(parents)
+    Ok(Ancestry::new(alloc, parents))
 }
 
 fn parent_of(own: &Names, types: &[SharedList<usize>], name: &[u8]) -> usize
