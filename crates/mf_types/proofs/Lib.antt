@@ -39,3 +39,4 @@ mod TypeWords
 mod Marked
 mod ByMarks
 mod Settling
+pub mod Hiding

@@ -2,6 +2,7 @@
 #![tactic(auto)]
 
 mod arguments;
+mod binders;
 mod building;
 mod changed;
 mod checking;
