@@ -41,3 +41,4 @@ mod TypeWords
 mod Marked
 mod ByMarks
 mod Settling
+pub mod Hiding

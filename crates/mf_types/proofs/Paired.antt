@@ -1,5 +1,5 @@
 -- Two lists taken together item by item.
-use Rattle.std.proofs.Common.{◌≡◌, ℕ, zero, suc, ◌+◌, ◌<◌, ◌≤◌, Some, None, List, [], ◌∷◌, ◌++◌, refl, sym, ap, ◌∙◌, length, drop, get_or, slice_get, append_assoc, arith}
+use Rattle.std.proofs.Common.{◌≡◌, ℕ, zero, suc, ◌+◌, ◌<◌, ◌≤◌, Some, None, List, [], ◌∷◌, ◌++◌, refl, sym, ap, ◌∙◌, length, drop, take, get_or, slice_get, append_assoc, arith}
 use Rattle.std.proofs.lemmas.Option.{none-some, same_Some, slice_get-get_or}
 use Rattle.std.proofs.lemmas.List.{append-nil}
 use Rattle.mf_types.specs.Tasks.{paired}
@@ -40,3 +40,22 @@ goes_on f n xs ys out whole x y h k l e =
     let next : n + 1 ≡ suc n = omega arith in
     let here = there f n xs ys x y (sym k) (slice_get-get_or ys n y l ∙ ap Some (sym e)) in
     rw next (append_assoc out (f x y ∷ []) (paired f (drop (suc n) xs) (drop (suc n) ys)) ∙ ap (λ rest. out ++ rest) (sym here) ∙ h)
+
+-- lists of the same length
+
+pub length_paired : {A B C : Type 0} (f : A → B → C) (xs : List A) (ys : List B) → length ys ≡ length xs → length (paired f xs ys) ≡ length xs
+length_paired f [] ys h = refl
+length_paired f (x ∷ xs) [] h = absurd (omega (arith, h))
+length_paired f (x ∷ xs) (y ∷ ys) h = ap suc (length_paired f xs ys (omega (arith, h)))
+
+pub paired_more : {A B C : Type 0} (f : A → B → C) (xs : List A) (ys : List B) (x : A) (y : B) → length ys ≡ length xs → paired f (xs ++ x ∷ []) (ys ++ y ∷ []) ≡ paired f xs ys ++ f x y ∷ []
+paired_more f [] [] x y h = refl
+paired_more f [] (b ∷ ys) x y h = absurd (omega (arith, h))
+paired_more f (a ∷ xs) [] x y h = absurd (omega (arith, h))
+paired_more f (a ∷ xs) (b ∷ ys) x y h = ap (λ rest. f a b ∷ rest) (paired_more f xs ys x y (omega (arith, h)))
+
+pub take_paired : {A B C : Type 0} (f : A → B → C) (n : ℕ) (xs : List A) (ys : List B) → paired f (take n xs) (take n ys) ≡ take n (paired f xs ys)
+take_paired f zero xs ys = refl
+take_paired f (suc n) [] ys = refl
+take_paired f (suc n) (x ∷ xs) [] = refl
+take_paired f (suc n) (x ∷ xs) (y ∷ ys) = ap (λ rest. f x y ∷ rest) (take_paired f n xs ys)

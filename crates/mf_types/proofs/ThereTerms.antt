@@ -5,9 +5,8 @@ use Rattle.std.specs.Str.{bytes_eq}
 use Rattle.mf_model.specs.declared.form.Word.{Word}
 use Rattle.mf_model.specs.Options.{◌>>=◌}
 use Rattle.mf_model.specs.Resolution.{number_of}
-use Rattle.mf_types.specs.declared.scope.Variable.{Variable}
 use Rattle.mf_types.specs.Arguments.{is_variable, types_at, entry, unknown, term_faults, count_faults, symbol_faults}
-use Rattle.mf_types.specs.Scopes.{Scope, Placed, inner, find_from, find_in}
+use Rattle.mf_types.specs.Scopes.{Scope, Variable, Placed, inner, find_from, find_in}
 use Rattle.mf_types.specs.Sites.{Site}
 use Rattle.mf_types.specs.Typing.{Binders, last_from, place_in, variable_at, object_at, term_of, terms_of, symbol_of}
 use Rattle.mf_types.specs.Tasks.{objects_of}

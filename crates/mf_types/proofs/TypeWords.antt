@@ -39,5 +39,5 @@ same_found site items n best alike found m e =
 pub same_more : (site : Site) (items : List Typed) (n : ℕ) (item : Typed) (best total : Option Fault) → n < length items → item ≡ get_or items n item → IsAlike items n → IsFound site items best n → after best (flat_map (item_faults site) (drop n items)) ≡ total → after best (flat_map (item_faults site) (drop (n + 1) items)) ≡ total
 same_more site items n item best total within is alike found so_far =
     items_more (item_faults site) items n item best best total within is
-      (sym (ap (λ ws. after best (word_faults site ws)) (sym (types_there items n item within is)) ∙ no_more site items n best alike found))
-      so_far
+    (sym (ap (λ ws. after best (word_faults site ws)) (sym (types_there items n item within is)) ∙ no_more site items n best alike found))
+    so_far

@@ -9,6 +9,7 @@ pub mod Effects
 pub mod Expressions
 pub mod Faults
 pub mod Gives
+pub mod Hiding
 pub mod Limits
 pub mod Names
 pub mod Places

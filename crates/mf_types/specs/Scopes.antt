@@ -2,14 +2,21 @@
 use Rattle.std.specs.Prelude.{ℕ, suc, Bool, if◌then◌else◌, Option, Some, None, List, [], ◌∷◌, map}
 use Rattle.std.specs.Str.{bytes_eq}
 use Rattle.mf_model.specs.declared.form.Typed.{Typed}
-use Rattle.mf_types.specs.declared.scope.Variable.{Variable}
 use Rattle.mf_types.specs.Names.{item_types}
+
+-- a variable with its declared types
+pub record Variable : Type 0 where
+  pub name : List ℕ
+  pub types : List ℕ
+
+abbrev pub variable : List ℕ → List ℕ → Variable
+variable name types = record { name = name; types = types }
 
 abbrev pub Scope : Type 0
 Scope = List Variable
 
 abbrev pub variable_of : List (List ℕ) → Typed → Variable
-variable_of names item = record { name = item.word.text; types = item_types names item }
+variable_of names item = variable item.word.text (item_types names item)
 
 abbrev pub variables_of : List (List ℕ) → List Typed → Scope
 variables_of names items = map (variable_of names) items

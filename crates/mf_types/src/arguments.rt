@@ -7,7 +7,7 @@ ghost use Rattle.mf_types.specs.Sites.{site_of};
 ghost use Rattle.mf_types.specs.Tables.{declared_of};
 
 use crate::least::{Fault, FaultKind, at_word, stands_before};
-use crate::scope::{Variable, types_of_variable};
+use crate::scope::Scope;
 use crate::site::Site;
 use crate::tables::Tables;
 use mf_model::{SharedList, Word};
@@ -30,11 +30,11 @@ fn types_of_object<'a>(tables: &'a Tables, name: &[u8]) -> Option<&'a [usize]>
 }
 
 /// The types of a term: those of the innermost variable of its name, or those of the object.
-fn types_of_term<'a>(tables: &'a Tables, scope: &'a [Variable], name: &[u8]) -> Option<&'a [usize]>
+fn types_of_term<'a>(tables: &'a Tables, scope: &'a Scope, name: &[u8]) -> Option<&'a [usize]>
     ensures { option_copied result ≡ spec.term_types (declared_of tables.now) scope.now name.now }
 {
     if is_variable(name) {
-        types_of_variable(scope, name)
+        scope.types_of(name)
     } else {
         types_of_object(tables, name)
     }
@@ -45,7 +45,7 @@ fn types_of_term<'a>(tables: &'a Tables, scope: &'a [Variable], name: &[u8]) -> 
 pub(crate) fn term(
     site: &Site<'_>,
     best: Option<Fault>,
-    scope: &[Variable],
+    scope: &Scope,
     word: &Word,
 ) -> Option<Fault>
     ensures { result ≡ after best (spec.term_faults (site_of site.now) scope.now word.now) }
@@ -61,12 +61,7 @@ pub(crate) fn term(
 
 /// The faults of terms whose names aren't declared.
 #[tactic(auto, using(crate::proofs::After::after_append))]
-fn terms(
-    site: &Site<'_>,
-    mut best: Option<Fault>,
-    scope: &[Variable],
-    words: &[Word],
-) -> Option<Fault>
+fn terms(site: &Site<'_>, mut best: Option<Fault>, scope: &Scope, words: &[Word]) -> Option<Fault>
     ensures { result ≡ after best
         (flat_map (spec.term_faults (site_of site.now) scope.now) words.now) }
 {
@@ -81,7 +76,7 @@ fn terms(
 fn argument(
     site: &Site<'_>,
     best: Option<Fault>,
-    scope: &[Variable],
+    scope: &Scope,
     wanted: &[usize],
     word: &Word,
 ) -> Option<Fault>
@@ -104,7 +99,7 @@ fn argument(
 fn arguments(
     site: &Site<'_>,
     mut best: Option<Fault>,
-    scope: &[Variable],
+    scope: &Scope,
     mut parameters: &[SharedList<usize>],
     words: &[Word],
 ) -> Option<Fault>
@@ -126,7 +121,7 @@ fn arguments(
 fn symbol(
     site: &Site<'_>,
     best: Option<Fault>,
-    scope: &[Variable],
+    scope: &Scope,
     parameters: Option<&[SharedList<usize>]>,
     name: &Word,
     words: &[Word],
@@ -164,7 +159,7 @@ fn count(
 pub(crate) fn atom(
     site: &Site<'_>,
     best: Option<Fault>,
-    scope: &[Variable],
+    scope: &Scope,
     predicate: &Word,
     words: &[Word],
 ) -> Option<Fault>
@@ -181,7 +176,7 @@ pub(crate) fn atom(
 pub(crate) fn function(
     site: &Site<'_>,
     best: Option<Fault>,
-    scope: &[Variable],
+    scope: &Scope,
     function: &Word,
     words: &[Word],
 ) -> Option<Fault>

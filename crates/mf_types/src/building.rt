@@ -15,6 +15,7 @@ mod leaves;
 mod narrow_rows;
 mod start;
 
+use crate::binders::Binders;
 use crate::refusal::Refusal;
 use crate::tables::Tables;
 use binders::{inside, types};
@@ -34,11 +35,12 @@ fn action(alloc: Global, tables: &Tables, raw: &RawAction) -> Result<Action, Ref
     requires few { spec.AreFew (declared_of tables.now) }
     ensures { Gives result (spec.action_of (declared_of tables.now) raw.now) }
 {
-    let binders = inside(alloc, &[], raw.parameters.as_slice())?;
+    let outer = Binders::new(alloc);
+    let binders = inside(alloc, &outer, raw.parameters.as_slice())?;
     let name = raw.word.text.copy(alloc)?;
     let parameters = types(alloc, tables, &raw.parameters)?;
-    let condition = condition(alloc, tables, binders.as_slice(), &raw.condition)?;
-    match effect(alloc, tables, binders.as_slice(), &raw.effect) {
+    let condition = condition(alloc, tables, &binders, &raw.condition)?;
+    match effect(alloc, tables, &binders, &raw.effect) {
         Err(refusal) => {
             drop(condition);
             Err(refusal)
@@ -70,7 +72,8 @@ fn goal(alloc: Global, tables: &Tables, raw: &RawCond) -> Result<Cond, Refusal>
     requires few { spec.AreFew (declared_of tables.now) }
     ensures { Gives result (cond_of (declared_of tables.now) raw.now []) }
 {
-    condition(alloc, tables, &[], raw)
+    let binders = Binders::new(alloc);
+    condition(alloc, tables, &binders, raw)
 }
 
 /// The metric, if there is one.
@@ -85,7 +88,8 @@ fn metric(
     match raw {
         None => Ok(None),
         Some(raw) => {
-            let value = expression(alloc, tables, &[], &raw.value)?;
+            let binders = Binders::new(alloc);
+            let value = expression(alloc, tables, &binders, &raw.value)?;
             Ok(Some(Metric {
                 least: raw.least,
                 value,

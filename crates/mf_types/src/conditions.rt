@@ -8,7 +8,7 @@ use crate::arguments::{atom, term};
 use crate::expressions::expression;
 use crate::least::Fault;
 use crate::quantified::variables;
-use crate::scope::{Variable, enter};
+use crate::scope::{Scope, enter};
 use crate::site::Site;
 use mf_model::{RawCond, RawExpr, TypedList, Word};
 use std::alloc::{AllocError, Global};
@@ -18,7 +18,7 @@ use std::alloc::{AllocError, Global};
 fn same(
     site: &Site<'_>,
     best: Option<Fault>,
-    scope: &[Variable],
+    scope: &Scope,
     left: &Word,
     right: &Word,
 ) -> Option<Fault>
@@ -34,7 +34,7 @@ fn same(
 fn comparison(
     site: &Site<'_>,
     best: Option<Fault>,
-    scope: &[Variable],
+    scope: &Scope,
     left: &RawExpr,
     right: &RawExpr,
 ) -> Option<Fault>
@@ -51,23 +51,21 @@ pub(crate) fn condition(
     alloc: Global,
     site: &Site<'_>,
     best: Option<Fault>,
-    scope: &mut Vec<Variable>,
+    scope: &mut Scope,
     raw: &RawCond,
 ) -> Result<Option<Fault>, AllocError>
     ensures value { IfOk result (λ b. b ≡ after best
-        (spec.cond_faults (site_of site.now) raw.now scope.old.items)) }
-    ensures same { OnOk result (scope.new.items ≡ scope.old.items) }
+        (spec.cond_faults (site_of site.now) raw.now scope.old)) }
+    ensures same { OnOk result (scope.new ≡ scope.old) }
 {
     match raw {
         RawCond::Atom {
             predicate,
             terms,
             ..
-        } => Ok(atom(site, best, scope.as_slice(), predicate, terms.as_slice())),
-        RawCond::Same { left, right, .. } => Ok(same(site, best, scope.as_slice(), left, right)),
-        RawCond::Compare { left, right, .. } => {
-            Ok(comparison(site, best, scope.as_slice(), left, right))
-        }
+        } => Ok(atom(site, best, scope, predicate, terms.as_slice())),
+        RawCond::Same { left, right, .. } => Ok(same(site, best, scope, left, right)),
+        RawCond::Compare { left, right, .. } => { Ok(comparison(site, best, scope, left, right)) }
         RawCond::Not { part, .. } => condition(alloc, site, best, scope, part.get()),
         RawCond::And { parts, .. } => conditions(alloc, site, best, scope, parts.as_slice()),
         RawCond::Or { parts, .. } => conditions(alloc, site, best, scope, parts.as_slice()),
@@ -93,12 +91,12 @@ fn conditions(
     alloc: Global,
     site: &Site<'_>,
     mut best: Option<Fault>,
-    scope: &mut Vec<Variable>,
+    scope: &mut Scope,
     parts: &[RawCond],
 ) -> Result<Option<Fault>, AllocError>
     ensures value { IfOk result (λ b. b ≡ after best
-        (spec.all_faults (map (spec.cond_faults (site_of site.now)) parts.now) scope.old.items)) }
-    ensures same { OnOk result (scope.new.items ≡ scope.old.items) }
+        (spec.all_faults (map (spec.cond_faults (site_of site.now)) parts.now) scope.old)) }
+    ensures same { OnOk result (scope.new ≡ scope.old) }
 {
     for part in parts {
         best = condition(alloc, site, best, scope, part)?;
@@ -112,14 +110,14 @@ fn implication(
     alloc: Global,
     site: &Site<'_>,
     best: Option<Fault>,
-    scope: &mut Vec<Variable>,
+    scope: &mut Scope,
     left: &RawCond,
     right: &RawCond,
 ) -> Result<Option<Fault>, AllocError>
     ensures value { IfOk result (λ b. b ≡ after best
         (spec.both_faults (spec.cond_faults (site_of site.now) left.now)
-        (spec.cond_faults (site_of site.now) right.now) scope.old.items)) }
-    ensures same { OnOk result (scope.new.items ≡ scope.old.items) }
+        (spec.cond_faults (site_of site.now) right.now) scope.old)) }
+    ensures same { OnOk result (scope.new ≡ scope.old) }
 {
     let best = condition(alloc, site, best, scope, left)?;
     condition(alloc, site, best, scope, right)
@@ -132,14 +130,14 @@ fn quantifier(
     alloc: Global,
     site: &Site<'_>,
     best: Option<Fault>,
-    scope: &mut Vec<Variable>,
+    scope: &mut Scope,
     items: &TypedList,
     part: &RawCond,
 ) -> Result<Option<Fault>, AllocError>
     ensures value { IfOk result (λ b. b ≡ after best
         (quantified (site_of site.now) items.now (spec.cond_faults (site_of site.now) part.now)
-        scope.old.items)) }
-    ensures same { OnOk result (scope.new.items ≡ scope.old.items) }
+        scope.old)) }
+    ensures same { OnOk result (scope.new ≡ scope.old) }
 {
     let outer = scope.len();
     let best = variables(alloc, site, best, outer, items)?;

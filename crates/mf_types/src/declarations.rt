@@ -43,13 +43,7 @@ pub(crate) fn declarations(
         linear: true,
     };
     let best = types(alloc, best, tables, &domain.types)?;
-    let best = objects(
-        alloc,
-        best,
-        tables,
-        &domain.constants,
-        &problem.objects,
-    )?;
+    let best = objects(alloc, best, tables, &domain.constants, &problem.objects)?;
     let best = headers(alloc, best, &site, domain.predicates.as_slice())?;
     let best = headers(alloc, best, &site, domain.functions.as_slice())?;
     let best = actions(alloc, best, &site, domain.actions.as_slice())?;

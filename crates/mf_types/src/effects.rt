@@ -10,7 +10,7 @@ use crate::conditions::condition;
 use crate::expressions::{expression, linear};
 use crate::least::Fault;
 use crate::quantified::variables;
-use crate::scope::{Variable, enter};
+use crate::scope::{Scope, enter};
 use crate::site::Site;
 use mf_model::{List, Op, RawCond, RawEffect, RawExpr, Span, TypedList, Word};
 use std::alloc::{AllocError, Global};
@@ -33,7 +33,7 @@ fn fits(op: Op, constant: bool) -> bool
 fn change(
     site: &Site<'_>,
     best: Option<Fault>,
-    scope: &[Variable],
+    scope: &Scope,
     op: Op,
     name: &Word,
     terms: &List<Word>,
@@ -54,34 +54,31 @@ pub(crate) fn effect(
     alloc: Global,
     site: &Site<'_>,
     best: Option<Fault>,
-    scope: &mut Vec<Variable>,
+    scope: &mut Scope,
     raw: &RawEffect,
 ) -> Result<Option<Fault>, AllocError>
     ensures value { IfOk result (λ b. b ≡ after best
-        (spec.effect_faults (site_of site.now) raw.now scope.old.items)) }
-    ensures same { OnOk result (scope.new.items ≡ scope.old.items) }
+        (spec.effect_faults (site_of site.now) raw.now scope.old)) }
+    ensures same { OnOk result (scope.new ≡ scope.old) }
 {
     match raw {
         RawEffect::Add {
             predicate,
             terms,
             ..
-        } => Ok(atom(site, best, scope.as_slice(), predicate, terms.as_slice())),
+        } => Ok(atom(site, best, scope, predicate, terms.as_slice())),
         RawEffect::Delete {
             predicate,
             terms,
             ..
-        } => Ok(atom(site, best, scope.as_slice(), predicate, terms.as_slice())),
+        } => Ok(atom(site, best, scope, predicate, terms.as_slice())),
         RawEffect::Change {
             op,
             function,
             terms,
             value,
             span,
-        } => {
-            let scope = scope.as_slice();
-            Ok(change(site, best, scope, *op, function, terms, value, *span))
-        }
+        } => { Ok(change(site, best, scope, *op, function, terms, value, *span)) }
         RawEffect::Group { parts, .. } => effects(alloc, site, best, scope, parts.as_slice()),
         RawEffect::Each {
             variables,
@@ -101,12 +98,12 @@ fn effects(
     alloc: Global,
     site: &Site<'_>,
     mut best: Option<Fault>,
-    scope: &mut Vec<Variable>,
+    scope: &mut Scope,
     parts: &[RawEffect],
 ) -> Result<Option<Fault>, AllocError>
     ensures value { IfOk result (λ b. b ≡ after best
-        (all_faults (map (spec.effect_faults (site_of site.now)) parts.now) scope.old.items)) }
-    ensures same { OnOk result (scope.new.items ≡ scope.old.items) }
+        (all_faults (map (spec.effect_faults (site_of site.now)) parts.now) scope.old)) }
+    ensures same { OnOk result (scope.new ≡ scope.old) }
 {
     for part in parts {
         best = effect(alloc, site, best, scope, part)?;
@@ -120,14 +117,14 @@ fn when(
     alloc: Global,
     site: &Site<'_>,
     best: Option<Fault>,
-    scope: &mut Vec<Variable>,
+    scope: &mut Scope,
     guard: &RawCond,
     part: &RawEffect,
 ) -> Result<Option<Fault>, AllocError>
     ensures value { IfOk result (λ b. b ≡ after best
         (both_faults (cond_faults (site_of site.now) guard.now)
-        (spec.effect_faults (site_of site.now) part.now) scope.old.items)) }
-    ensures same { OnOk result (scope.new.items ≡ scope.old.items) }
+        (spec.effect_faults (site_of site.now) part.now) scope.old)) }
+    ensures same { OnOk result (scope.new ≡ scope.old) }
 {
     let best = condition(alloc, site, best, scope, guard)?;
     effect(alloc, site, best, scope, part)
@@ -140,14 +137,14 @@ fn each(
     alloc: Global,
     site: &Site<'_>,
     best: Option<Fault>,
-    scope: &mut Vec<Variable>,
+    scope: &mut Scope,
     items: &TypedList,
     part: &RawEffect,
 ) -> Result<Option<Fault>, AllocError>
     ensures value { IfOk result (λ b. b ≡ after best
         (quantified (site_of site.now) items.now (spec.effect_faults (site_of site.now) part.now)
-        scope.old.items)) }
-    ensures same { OnOk result (scope.new.items ≡ scope.old.items) }
+        scope.old)) }
+    ensures same { OnOk result (scope.new ≡ scope.old) }
 {
     let outer = scope.len();
     let best = variables(alloc, site, best, outer, items)?;

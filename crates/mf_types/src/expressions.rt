@@ -5,7 +5,7 @@ ghost use Rattle.mf_types.specs.Sites.{site_of};
 
 use crate::arguments::{function, parameters_of_function};
 use crate::least::{Fault, FaultKind, at_span, at_word};
-use crate::scope::Variable;
+use crate::scope::Scope;
 use crate::site::Site;
 use mf_fraction::{NumberFault, read_decimal};
 use mf_model::{FileKind, RawExpr, Span, Word};
@@ -67,7 +67,7 @@ pub(crate) fn linear(
 pub(crate) fn expression(
     site: &Site<'_>,
     best: Option<Fault>,
-    scope: &[Variable],
+    scope: &Scope,
     value: &RawExpr,
 ) -> Examined
     ensures { result ≡ spec.examined best scope.now (spec.seen (site_of site.now) value.now) }
@@ -102,7 +102,7 @@ pub(crate) fn expression(
 }
 
 #[cycle(expression)]
-fn sum(site: &Site<'_>, best: Option<Fault>, scope: &[Variable], parts: &[RawExpr]) -> Examined
+fn sum(site: &Site<'_>, best: Option<Fault>, scope: &Scope, parts: &[RawExpr]) -> Examined
     ensures { result ≡ spec.examined best scope.now
         (spec.sum (map (spec.seen (site_of site.now)) parts.now)) }
 {
@@ -118,7 +118,7 @@ fn sum(site: &Site<'_>, best: Option<Fault>, scope: &[Variable], parts: &[RawExp
 fn difference(
     site: &Site<'_>,
     best: Option<Fault>,
-    scope: &[Variable],
+    scope: &Scope,
     left: &RawExpr,
     right: &RawExpr,
 ) -> Examined
@@ -139,7 +139,7 @@ fn difference(
 fn product(
     site: &Site<'_>,
     best: Option<Fault>,
-    scope: &[Variable],
+    scope: &Scope,
     parts: &[RawExpr],
     span: Span,
 ) -> Examined
@@ -159,7 +159,7 @@ fn product(
 fn quotient(
     site: &Site<'_>,
     best: Option<Fault>,
-    scope: &[Variable],
+    scope: &Scope,
     left: &RawExpr,
     right: &RawExpr,
     span: Span,
@@ -178,12 +178,7 @@ fn quotient(
 
 #[cycle(expression)]
 #[tactic(auto, using(crate::proofs::After::after_append))]
-fn expressions(
-    site: &Site<'_>,
-    mut best: Option<Fault>,
-    scope: &[Variable],
-    parts: &[RawExpr],
-) -> Parts
+fn expressions(site: &Site<'_>, mut best: Option<Fault>, scope: &Scope, parts: &[RawExpr]) -> Parts
     ensures changing { result.changing ≡
         spec.changing (map (spec.seen (site_of site.now)) parts.now) }
     ensures best { result.best ≡ after best

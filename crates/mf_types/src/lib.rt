@@ -3,6 +3,7 @@
 
 mod ancestry;
 mod arguments;
+mod binders;
 mod building;
 mod changed;
 mod checking;
@@ -15,6 +16,7 @@ mod effects;
 mod entering;
 mod expressions;
 mod fault;
+mod item_types;
 mod kept;
 mod laws;
 mod least;
@@ -30,7 +32,6 @@ mod scope;
 mod site;
 mod start_values;
 mod tables;
-mod item_types;
 mod type_table;
 mod uses;
 mod words;

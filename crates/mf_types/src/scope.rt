@@ -1,48 +1,100 @@
-ghost use Rattle.std.specs.Prelude.{◌≡◌, ◌++◌, OnOk};
+ghost use Rattle.std.specs.Prelude.{◌≡◌, [], ◌∷◌, ◌++◌, length, take, OnOk, OnErr};
 ghost use Rattle.std.specs.Option.{option_copied};
 ghost use Rattle.mf_types.specs.Arguments.{types_at};
 ghost use Rattle.mf_types.specs.Scopes as spec;
 
+use crate::binders::Binders;
 use crate::item_types::types_of_items;
-use mf_model::{SharedList, Text, TypedList};
+use mf_model::{SharedList, TypedList};
 use mf_names::Names;
 use std::alloc::{AllocError, Global};
+use std::marker::Model;
 
-/// A variable in scope with its declared types.
-#[derive(Debug, Drop)]
-pub(crate) struct Variable {
-    pub(crate) name: Text,
-    pub(crate) types: SharedList<usize>,
+/// The variables in scope, each with its declared types, the outermost first.
+#[derive(Drop)]
+pub(crate) struct Scope {
+    binders: Binders,
+    types: Vec<SharedList<usize>>,
 }
 
-/// The types of the innermost variable of a name.
-pub(crate) fn types_of_variable<'a>(scope: &'a [Variable], name: &[u8]) -> Option<&'a [usize]>
-    ensures { option_copied result ≡ types_at (spec.find_in scope.now name.now) }
-{
-    let mut types = None;
-    for variable in scope {
-        if variable.name.as_slice() == name {
-            types = Some(variable.types.as_slice());
+impl Model for Scope {
+    ghost use Rattle.std.specs.Prelude.{◌≡◌, List, length};
+    ghost use Rattle.mf_types.specs.Scopes.{Variable, variable};
+    ghost use Rattle.mf_types.specs.Tasks.{paired};
+
+    ghost Value = { List Variable };
+
+    ghost view = { λ scope. paired variable scope.binders scope.types.items };
+
+    ghost invariant = { λ scope. length scope.types.items ≡ length scope.binders };
+}
+
+impl Scope {
+    pub(crate) fn new(alloc: Global) -> Scope
+        ensures { result ≡ [] }
+    {
+        Scope {
+            binders: Binders::new(alloc),
+            types: Vec::new(alloc),
         }
     }
-    types
+
+    /// How many variables are in scope.
+    pub(crate) fn len(&self) -> usize
+        ensures { result ≡ length self.now }
+    {
+        self.binders.len()
+    }
+
+    /// The types of the innermost variable of a name.
+    pub(crate) fn types_of(&self, name: &[u8]) -> Option<&[usize]>
+        ensures { option_copied result ≡ types_at (spec.find_in self.now name.now) }
+    {
+        match self.binders.find(name) {
+            Some(place) => Some(self.types[place].as_slice()),
+            None => None,
+        }
+    }
+
+    /// Puts a variable inside the others.
+    fn push(
+        &mut self,
+        alloc: Global,
+        name: &[u8],
+        types: SharedList<usize>,
+    ) -> Result<(), AllocError>
+        ensures ok { OnOk result (self.new ≡ self.old ++ spec.variable name.now types ∷ []) }
+        ensures err { OnErr result (self.new ≡ self.old) }
+    {
+        self.types.reserve(1)?;
+        self.binders.push(alloc, name)?;
+        self.types.push_reserved(types);
+        Ok(())
+    }
+
+    /// Leaves so many of the outermost variables in scope.
+    pub(crate) fn truncate(&mut self, len: usize)
+        ensures { self.new ≡ take len self.old }
+    {
+        self.binders.truncate(len);
+        self.types.truncate(len);
+    }
 }
 
-/// Puts the variables of a list behind those in scope.
+/// Puts the variables of a list inside those in scope.
 pub(crate) fn enter(
     alloc: Global,
     names: &Names,
-    scope: &mut Vec<Variable>,
+    scope: &mut Scope,
     items: &TypedList,
 ) -> Result<(), AllocError>
-    ensures { OnOk result (scope.new.items ≡
-        scope.old.items ++ spec.variables_of names.now items.now) }
+    ensures { OnOk result (scope.new ≡
+        scope.old ++ spec.variables_of names.now items.now) }
 {
     let rows = types_of_items(alloc, names, items)?;
     for (n, item) in items.as_slice().iter().enumerate() {
-        let name = item.word.text.copy(alloc)?;
         let types = rows.as_slice()[n].share()?;
-        scope.push(Variable { name, types })?;
+        scope.push(alloc, item.word.text.as_slice(), types)?;
     }
     Ok(())
 }

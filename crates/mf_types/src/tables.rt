@@ -37,12 +37,7 @@ impl Tables {
         ensures { IfOk result (λ tables. declared_of tables ≡ declared_by domain.now problem.now) }
     {
         let types = type_table(alloc, &domain.types)?;
-        let objects = object_table(
-            alloc,
-            &types.names,
-            &domain.constants,
-            &problem.objects,
-        )?;
+        let objects = object_table(alloc, &types.names, &domain.constants, &problem.objects)?;
         let predicates = symbol_table(alloc, &types.names, domain.predicates.as_slice())?;
         let functions = symbol_table(alloc, &types.names, domain.functions.as_slice())?;
         let changed = changed(alloc, domain.actions.as_slice())?;

@@ -1,4 +1,4 @@
-ghost use Rattle.std.specs.Prelude.{◌≡◌, IfOk};
+ghost use Rattle.std.specs.Prelude.{◌≡◌, [], IfOk};
 ghost use Rattle.std.specs.List.{flat_map};
 ghost use Rattle.mf_types.specs.Conditions.{both_faults, cond_faults};
 ghost use Rattle.mf_types.specs.Effects.{effect_faults};
@@ -14,7 +14,7 @@ use crate::expressions::expression;
 use crate::least::Fault;
 use crate::listing::beyond;
 use crate::quantified::MOST_VARIABLES;
-use crate::scope::{Variable, enter};
+use crate::scope::{Scope, enter};
 use crate::site::Site;
 use crate::tables::Tables;
 use crate::words::item_words;
@@ -41,7 +41,7 @@ pub(crate) fn uses(
     };
     let best = start(alloc, &site, best, problem)?;
     let best = closed(alloc, &site, best, &problem.goal)?;
-    Ok(metric(tables, best, &problem.metric))
+    Ok(metric(alloc, tables, best, &problem.metric))
 }
 
 /// The faults of actions.
@@ -78,13 +78,8 @@ fn uses_of_action(
 {
     let words = item_words(alloc, action.parameters.as_slice())?;
     let best = beyond(best, site.file, MOST_VARIABLES, words.as_slice());
-    let mut scope = Vec::new(alloc);
-    enter(
-        alloc,
-        &site.tables.types,
-        &mut scope,
-        &action.parameters,
-    )?;
+    let mut scope = Scope::new(alloc);
+    enter(alloc, &site.tables.types, &mut scope, &action.parameters)?;
     let best = body(alloc, site, best, &mut scope, action)?;
     Ok(best)
 }
@@ -94,12 +89,12 @@ fn body(
     alloc: Global,
     site: &Site<'_>,
     best: Option<Fault>,
-    scope: &mut Vec<Variable>,
+    scope: &mut Scope,
     action: &RawAction,
 ) -> Result<Option<Fault>, AllocError>
     ensures { IfOk result (λ b. b ≡ after best
         (both_faults (cond_faults (site_of site.now) action.now.condition)
-        (effect_faults (site_of site.now) action.now.effect) scope.old.items)) }
+        (effect_faults (site_of site.now) action.now.effect) scope.old)) }
 {
     let best = condition(alloc, site, best, scope, &action.condition)?;
     effect(alloc, site, best, scope, &action.effect)
@@ -117,7 +112,7 @@ fn start(
         (spec.start_faults (site_of site.now) problem.now.atoms problem.now.values)) }
 {
     let best = facts(alloc, site, best, problem.atoms.as_slice())?;
-    Ok(terms(site, best, problem.values.as_slice()))
+    Ok(terms(alloc, site, best, problem.values.as_slice()))
 }
 
 fn facts(
@@ -136,20 +131,32 @@ fn facts(
 }
 
 /// The faults of the terms of start values.
-fn terms(site: &Site<'_>, mut best: Option<Fault>, values: &[RawValue]) -> Option<Fault>
+fn terms(
+    alloc: Global,
+    site: &Site<'_>,
+    mut best: Option<Fault>,
+    values: &[RawValue],
+) -> Option<Fault>
     ensures { result ≡ after best
         (flat_map (spec.value_term_faults (site_of site.now)) values.now) }
 {
+    let scope = Scope::new(alloc);
     for value in values {
-        best = value_term(site, best, value);
+        best = value_term(site, best, &scope, value);
     }
     best
 }
 
-fn value_term(site: &Site<'_>, best: Option<Fault>, value: &RawValue) -> Option<Fault>
+fn value_term(
+    site: &Site<'_>,
+    best: Option<Fault>,
+    scope: &Scope,
+    value: &RawValue,
+) -> Option<Fault>
+    requires { scope.now ≡ [] }
     ensures { result ≡ after best (spec.value_term_faults (site_of site.now) value.now) }
 {
-    function(site, best, &[], &value.function, value.objects.as_slice())
+    function(site, best, scope, &value.function, value.objects.as_slice())
 }
 
 /// The faults of a condition without variables round it.
@@ -161,12 +168,17 @@ fn closed(
 ) -> Result<Option<Fault>, AllocError>
     ensures { IfOk result (λ b. b ≡ after best (spec.closed_faults (site_of site.now) raw.now)) }
 {
-    let mut scope = Vec::new(alloc);
+    let mut scope = Scope::new(alloc);
     condition(alloc, site, best, &mut scope, raw)
 }
 
 /// The faults of the metric, which need not be linear.
-fn metric(tables: &Tables, best: Option<Fault>, metric: &Option<RawMetric>) -> Option<Fault>
+fn metric(
+    alloc: Global,
+    tables: &Tables,
+    best: Option<Fault>,
+    metric: &Option<RawMetric>,
+) -> Option<Fault>
     ensures { result ≡ after best (spec.metric_faults (declared_of tables.now) metric.now) }
 {
     let Some(metric) = metric else {
@@ -177,5 +189,6 @@ fn metric(tables: &Tables, best: Option<Fault>, metric: &Option<RawMetric>) -> O
         file: FileKind::ProblemFile,
         linear: false,
     };
-    expression(&site, best, &[], &metric.value).best
+    let scope = Scope::new(alloc);
+    expression(&site, best, &scope, &metric.value).best
 }

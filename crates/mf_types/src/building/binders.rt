@@ -7,42 +7,29 @@ ghost use Rattle.mf_types.specs.Typing as spec;
 
 use super::declarations::narrow_all;
 use super::narrow_rows::NarrowRows;
+use crate::binders::Binders;
 use crate::item_types::types_of_items;
 use crate::refusal::Refusal;
 use crate::tables::Tables;
-use mf_model::{List, Text, Typed, TypedList, Types};
+use mf_model::{List, Typed, TypedList, Types};
 use std::alloc::{AllocError, Global};
 
 // The most variables in scope.
 const MOST_VARIABLES: usize = 64;
 
-/// Adds the names of items to a list.
-fn add_names(alloc: Global, out: &mut List<Text>, items: &[Typed]) -> Result<(), AllocError>
-    ensures { OnOk result (out.new ≡ out.old ++ typed_names items.now) }
+/// Puts the variables of a list inside those in scope.
+fn enter(alloc: Global, binders: &mut Binders, items: &[Typed]) -> Result<(), AllocError>
+    ensures { OnOk result (binders.new ≡ binders.old ++ typed_names items.now) }
 {
     for item in items {
-        out.push(item.word.text.copy(alloc)?)?;
-    }
-    Ok(())
-}
-
-/// Adds texts to a list.
-fn add_texts(alloc: Global, out: &mut List<Text>, texts: &[Text]) -> Result<(), AllocError>
-    ensures { OnOk result (out.new ≡ out.old ++ texts.now) }
-{
-    for text in texts {
-        out.push(text.copy(alloc)?)?;
+        binders.push(alloc, item.word.text.as_slice())?;
     }
     Ok(())
 }
 
 /// The variables in scope inside a list of variables.
 #[tactic(auto, unfolding(crate::specs::Typing::inside))]
-pub(crate) fn inside(
-    alloc: Global,
-    binders: &[Text],
-    items: &[Typed],
-) -> Result<List<Text>, Refusal>
+pub(crate) fn inside(alloc: Global, binders: &Binders, items: &[Typed]) -> Result<Binders, Refusal>
     requires { length binders.now ≤ 64 }
     ensures names { Gives result (spec.inside binders.now items.now) }
     ensures room { IfOk result (λ names. length names ≤ 64) }
@@ -50,10 +37,9 @@ pub(crate) fn inside(
     if items.len() > MOST_VARIABLES - binders.len() {
         return Err(Refusal::Refused);
     }
-    let mut out = List::new(alloc);
-    add_texts(alloc, &mut out, binders)?;
-    add_names(alloc, &mut out, items)?;
-    Ok(out)
+    let mut inner = binders.copy(alloc)?;
+    enter(alloc, &mut inner, items)?;
+    Ok(inner)
 }
 
 /// The declared types of each item.

@@ -8,16 +8,17 @@ ghost use Rattle.mf_types.specs.Typing as spec;
 use super::binders::{inside, types};
 use super::expressions::expression;
 use super::leaves::{predicate, term, terms};
+use crate::binders::Binders;
 use crate::refusal::Refusal;
 use crate::tables::Tables;
-use mf_model::{Cond, Expr, RawCond, RawExpr, Relation, Text, TypedList, Word};
+use mf_model::{Cond, Expr, RawCond, RawExpr, Relation, TypedList, Word};
 use sqlite_items::{Boxed, Items};
 use std::alloc::Global;
 
 fn atom(
     alloc: Global,
     tables: &Tables,
-    binders: &[Text],
+    binders: &Binders,
     word: &Word,
     words: &[Word],
 ) -> Result<Cond, Refusal>
@@ -30,7 +31,7 @@ fn atom(
     Ok(Cond::Atom { predicate, terms })
 }
 
-fn same(tables: &Tables, binders: &[Text], left: &Word, right: &Word) -> Result<Cond, Refusal>
+fn same(tables: &Tables, binders: &Binders, left: &Word, right: &Word) -> Result<Cond, Refusal>
     requires few { AreFew (declared_of tables.now) }
     requires room { length binders.now ≤ 64 }
     ensures { Gives result (spec.both cond.Same (spec.term_of (declared_of tables.now) binders.now left.now) (spec.term_of (declared_of tables.now) binders.now right.now)) }
@@ -58,7 +59,7 @@ fn compared(relation: Relation, left: Expr, right: Result<Expr, Refusal>) -> Res
 fn comparison(
     alloc: Global,
     tables: &Tables,
-    binders: &[Text],
+    binders: &Binders,
     relation: Relation,
     left: &RawExpr,
     right: &RawExpr,
@@ -77,7 +78,7 @@ fn comparison(
 pub(crate) fn condition(
     alloc: Global,
     tables: &Tables,
-    binders: &[Text],
+    binders: &Binders,
     raw: &RawCond,
 ) -> Result<Cond, Refusal>
     requires few { AreFew (declared_of tables.now) }
@@ -120,7 +121,7 @@ pub(crate) fn condition(
 fn negation(
     alloc: Global,
     tables: &Tables,
-    binders: &[Text],
+    binders: &Binders,
     raw: &RawCond,
 ) -> Result<Cond, Refusal>
     requires few { AreFew (declared_of tables.now) }
@@ -135,7 +136,7 @@ fn negation(
 fn conjunction(
     alloc: Global,
     tables: &Tables,
-    binders: &[Text],
+    binders: &Binders,
     raws: &[RawCond],
 ) -> Result<Cond, Refusal>
     requires few { AreFew (declared_of tables.now) }
@@ -150,7 +151,7 @@ fn conjunction(
 fn disjunction(
     alloc: Global,
     tables: &Tables,
-    binders: &[Text],
+    binders: &Binders,
     raws: &[RawCond],
 ) -> Result<Cond, Refusal>
     requires few { AreFew (declared_of tables.now) }
@@ -166,7 +167,7 @@ fn disjunction(
 fn implication(
     alloc: Global,
     tables: &Tables,
-    binders: &[Text],
+    binders: &Binders,
     left: &RawCond,
     right: &RawCond,
 ) -> Result<Cond, Refusal>
@@ -194,7 +195,7 @@ fn implied(left: Boxed<Cond>, right: Result<Boxed<Cond>, Refusal>) -> Result<Con
 fn universal(
     alloc: Global,
     tables: &Tables,
-    binders: &[Text],
+    binders: &Binders,
     variables: &TypedList,
     raw: &RawCond,
 ) -> Result<Cond, Refusal>
@@ -215,7 +216,7 @@ fn universal(
 fn existential(
     alloc: Global,
     tables: &Tables,
-    binders: &[Text],
+    binders: &Binders,
     variables: &TypedList,
     raw: &RawCond,
 ) -> Result<Cond, Refusal>
@@ -236,7 +237,7 @@ fn existential(
 fn boxed(
     alloc: Global,
     tables: &Tables,
-    binders: &[Text],
+    binders: &Binders,
     raw: &RawCond,
 ) -> Result<Boxed<Cond>, Refusal>
     requires few { AreFew (declared_of tables.now) }
@@ -252,7 +253,7 @@ fn boxed(
 fn inner(
     alloc: Global,
     tables: &Tables,
-    binders: &[Text],
+    binders: &Binders,
     variables: &TypedList,
     raw: &RawCond,
 ) -> Result<Boxed<Cond>, Refusal>
@@ -261,7 +262,7 @@ fn inner(
     ensures { Gives result (spec.within variables.now (spec.cond_of (declared_of tables.now) raw.now) binders.now) }
 {
     let inner = inside(alloc, binders, variables.as_slice())?;
-    boxed(alloc, tables, inner.as_slice(), raw)
+    boxed(alloc, tables, &inner, raw)
 }
 
 /// The parts of a conjunction or a disjunction.
@@ -269,7 +270,7 @@ fn inner(
 fn conditions(
     alloc: Global,
     tables: &Tables,
-    binders: &[Text],
+    binders: &Binders,
     raws: &[RawCond],
 ) -> Result<Items<Cond>, Refusal>
     requires few { AreFew (declared_of tables.now) }

@@ -9,9 +9,10 @@ use super::binders::{inside, types};
 use super::conditions::condition;
 use super::expressions::expression;
 use super::leaves::{function, predicate, terms};
+use crate::binders::Binders;
 use crate::refusal::Refusal;
 use crate::tables::Tables;
-use mf_model::{Cond, Effect, List, Op, RawCond, RawEffect, RawExpr, Text, TypedList, Word};
+use mf_model::{Cond, Effect, List, Op, RawCond, RawEffect, RawExpr, TypedList, Word};
 use sqlite_items::{Boxed, Items};
 use std::alloc::Global;
 
@@ -19,7 +20,7 @@ use std::alloc::Global;
 fn addition(
     alloc: Global,
     tables: &Tables,
-    binders: &[Text],
+    binders: &Binders,
     word: &Word,
     words: &[Word],
 ) -> Result<Effect, Refusal>
@@ -36,7 +37,7 @@ fn addition(
 fn deletion(
     alloc: Global,
     tables: &Tables,
-    binders: &[Text],
+    binders: &Binders,
     word: &Word,
     words: &[Word],
 ) -> Result<Effect, Refusal>
@@ -53,7 +54,7 @@ fn deletion(
 fn change(
     alloc: Global,
     tables: &Tables,
-    binders: &[Text],
+    binders: &Binders,
     op: Op,
     word: &Word,
     words: &List<Word>,
@@ -89,7 +90,7 @@ fn conditional(condition: Cond, part: Result<Boxed<Effect>, Refusal>) -> Result<
 pub(crate) fn effect(
     alloc: Global,
     tables: &Tables,
-    binders: &[Text],
+    binders: &Binders,
     raw: &RawEffect,
 ) -> Result<Effect, Refusal>
     requires few { AreFew (declared_of tables.now) }
@@ -132,7 +133,7 @@ pub(crate) fn effect(
 fn group(
     alloc: Global,
     tables: &Tables,
-    binders: &[Text],
+    binders: &Binders,
     raws: &[RawEffect],
 ) -> Result<Effect, Refusal>
     requires few { AreFew (declared_of tables.now) }
@@ -148,7 +149,7 @@ fn group(
 fn each(
     alloc: Global,
     tables: &Tables,
-    binders: &[Text],
+    binders: &Binders,
     variables: &TypedList,
     raw: &RawEffect,
 ) -> Result<Effect, Refusal>
@@ -170,7 +171,7 @@ fn each(
 fn when(
     alloc: Global,
     tables: &Tables,
-    binders: &[Text],
+    binders: &Binders,
     guard: &RawCond,
     raw: &RawEffect,
 ) -> Result<Effect, Refusal>
@@ -188,7 +189,7 @@ fn when(
 fn boxed(
     alloc: Global,
     tables: &Tables,
-    binders: &[Text],
+    binders: &Binders,
     raw: &RawEffect,
 ) -> Result<Boxed<Effect>, Refusal>
     requires few { AreFew (declared_of tables.now) }
@@ -204,7 +205,7 @@ fn boxed(
 fn inner(
     alloc: Global,
     tables: &Tables,
-    binders: &[Text],
+    binders: &Binders,
     variables: &TypedList,
     raw: &RawEffect,
 ) -> Result<Boxed<Effect>, Refusal>
@@ -213,7 +214,7 @@ fn inner(
     ensures { Gives result (spec.within variables.now (spec.effect_of (declared_of tables.now) raw.now) binders.now) }
 {
     let inner = inside(alloc, binders, variables.as_slice())?;
-    boxed(alloc, tables, inner.as_slice(), raw)
+    boxed(alloc, tables, &inner, raw)
 }
 
 /// The parts of a group.
@@ -221,7 +222,7 @@ fn inner(
 fn effects(
     alloc: Global,
     tables: &Tables,
-    binders: &[Text],
+    binders: &Binders,
     raws: &[RawEffect],
 ) -> Result<Items<Effect>, Refusal>
     requires few { AreFew (declared_of tables.now) }

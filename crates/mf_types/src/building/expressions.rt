@@ -6,9 +6,10 @@ ghost use Rattle.mf_types.specs.Tasks.{AreFew};
 ghost use Rattle.mf_types.specs.Typing as spec;
 
 use super::leaves::{function, number, terms};
+use crate::binders::Binders;
 use crate::refusal::Refusal;
 use crate::tables::Tables;
-use mf_model::{Expr, List, RawExpr, Text, Word};
+use mf_model::{Expr, List, RawExpr, Word};
 use sqlite_items::{Boxed, Items};
 use std::alloc::Global;
 
@@ -16,7 +17,7 @@ use std::alloc::Global;
 fn function_term(
     alloc: Global,
     tables: &Tables,
-    binders: &[Text],
+    binders: &Binders,
     word: &Word,
     words: &[Word],
 ) -> Result<Expr, Refusal>
@@ -72,7 +73,7 @@ fn quotient(left: Boxed<Expr>, right: Result<Boxed<Expr>, Refusal>) -> Result<Ex
 pub(crate) fn expression(
     alloc: Global,
     tables: &Tables,
-    binders: &[Text],
+    binders: &Binders,
     raw: &RawExpr,
 ) -> Result<Expr, Refusal>
     requires few { AreFew (declared_of tables.now) }
@@ -117,7 +118,7 @@ pub(crate) fn expression(
 fn boxed(
     alloc: Global,
     tables: &Tables,
-    binders: &[Text],
+    binders: &Binders,
     raw: &RawExpr,
 ) -> Result<Boxed<Expr>, Refusal>
     requires few { AreFew (declared_of tables.now) }
@@ -133,7 +134,7 @@ fn boxed(
 fn expressions(
     alloc: Global,
     tables: &Tables,
-    binders: &[Text],
+    binders: &Binders,
     raws: &[RawExpr],
 ) -> Result<Items<Expr>, Refusal>
     requires few { AreFew (declared_of tables.now) }

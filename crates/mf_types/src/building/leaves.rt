@@ -1,4 +1,4 @@
-ghost use Rattle.std.specs.Prelude.{◌≡◌, ◌≤◌, ◌<◌, [], length, Some, IfSome, pos};
+ghost use Rattle.std.specs.Prelude.{◌≡◌, ◌≤◌, length, Some, pos};
 ghost use Rattle.mf_fraction.specs.Exact.{whole};
 ghost use Rattle.mf_model.specs.Resolution.{number_of};
 ghost use Rattle.mf_types.specs.Arguments.{is_variable};
@@ -7,32 +7,19 @@ ghost use Rattle.mf_types.specs.Tables.{declared_of};
 ghost use Rattle.mf_types.specs.Tasks.{AreFew};
 ghost use Rattle.mf_types.specs.Typing as spec;
 
+use crate::binders::Binders;
 use crate::refusal::Refusal;
 use crate::tables::Tables;
 use mf_fraction::{Frac, NumberFault, Wide, read_decimal};
-use mf_model::{List, Term, Text, Word};
+use mf_model::{List, Term, Word};
 use std::alloc::Global;
 
-/// The place of the innermost variable of a name.
-fn place(binders: &[Text], name: &[u8]) -> Option<usize>
-    ensures value { result ≡ spec.place_in binders.now name.now }
-    ensures within { IfSome result (λ n. n < length binders.now) }
-{
-    let mut place = None;
-    for (n, own) in binders.iter().enumerate() {
-        if own.as_slice() == name {
-            place = Some(n);
-        }
-    }
-    place
-}
-
 /// The place of a variable in the binding.
-fn variable(binders: &[Text], name: &[u8]) -> Result<Term, Refusal>
+fn variable(binders: &Binders, name: &[u8]) -> Result<Term, Refusal>
     requires room { length binders.now ≤ 64 }
     ensures { Gives result (spec.variable_at (spec.place_in binders.now name.now)) }
 {
-    match place(binders, name) {
+    match binders.find(name) {
         Some(place) => Ok(Term::Variable(place as u8)),
         None => Err(Refusal::Refused),
     }
@@ -61,7 +48,7 @@ fn is_variable(word: &[u8]) -> bool
 
 /// The place of a variable in the binding, or the number of an object.
 #[tactic(auto, unfolding(crate::specs::Typing::term_of))]
-pub(crate) fn term(tables: &Tables, binders: &[Text], word: &Word) -> Result<Term, Refusal>
+pub(crate) fn term(tables: &Tables, binders: &Binders, word: &Word) -> Result<Term, Refusal>
     requires few { AreFew (declared_of tables.now) }
     requires room { length binders.now ≤ 64 }
     ensures { Gives result (spec.term_of (declared_of tables.now) binders.now word.now) }
@@ -76,7 +63,7 @@ pub(crate) fn term(tables: &Tables, binders: &[Text], word: &Word) -> Result<Ter
 pub(crate) fn terms(
     alloc: Global,
     tables: &Tables,
-    binders: &[Text],
+    binders: &Binders,
     words: &[Word],
 ) -> Result<List<Term>, Refusal>
     requires few { AreFew (declared_of tables.now) }

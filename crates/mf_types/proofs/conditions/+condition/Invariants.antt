@@ -19,6 +19,6 @@ decreases-quantifier l = 10 * goal.size-quantifier l + 5
 
 abbrev pub invariant-conditions-loop-part : goal.invariant-conditions-loop-part
 invariant-conditions-loop-part l = record {
-  value : after l.best (all_faults (map (cond_faults (site_of l.site)) (drop l.part-index l.parts)) l.fn.scope.items) ≡ after l.fn.best (all_faults (map (cond_faults (site_of l.site)) l.parts) l.fn.scope.items);
-  same : l.scope.items ≡ l.fn.scope.items;
+  value : after l.best (all_faults (map (cond_faults (site_of l.site)) (drop l.part-index l.parts)) l.fn.scope) ≡ after l.fn.best (all_faults (map (cond_faults (site_of l.site)) l.parts) l.fn.scope);
+  same : l.scope ≡ l.fn.scope;
 }

@@ -20,6 +20,6 @@ decreases-each l = 10 * goal.size-each l + 5
 
 abbrev pub invariant-effects-loop-part : goal.invariant-effects-loop-part
 invariant-effects-loop-part l = record {
-  value : after l.best (all_faults (map (effect_faults (site_of l.site)) (drop l.part-index l.parts)) l.fn.scope.items) ≡ after l.fn.best (all_faults (map (effect_faults (site_of l.site)) l.parts) l.fn.scope.items);
-  same : l.scope.items ≡ l.fn.scope.items;
+  value : after l.best (all_faults (map (effect_faults (site_of l.site)) (drop l.part-index l.parts)) l.fn.scope) ≡ after l.fn.best (all_faults (map (effect_faults (site_of l.site)) l.parts) l.fn.scope);
+  same : l.scope ≡ l.fn.scope;
 }

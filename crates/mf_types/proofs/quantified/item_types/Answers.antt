@@ -19,7 +19,7 @@ loop-n-preserved c =
     elim c.if-not-shares_types.branch [
       | then-not-shares_types w ↦
           let step : w.type_words-best.result ≡ after c.loop-n.best (word_faults site item.types) =
-              w.type_words-best.ensures ∙ ap (λ ws. after c.loop-n.best (word_faults site ws)) w.as_slice.ensures in
+          w.type_words-best.ensures ∙ ap (λ ws. after c.loop-n.best (word_faults site ws)) w.as_slice.ensures in
           rw (w.best-is)
           record {
             best = items_more (item_faults site) items n item _ _ _ within is step c.loop-n.invariant.best;

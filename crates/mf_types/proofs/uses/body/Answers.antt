@@ -6,4 +6,4 @@ use Rattle.mf_types.proofs.uses.body.Goals as goal
 
 pub returns : goal.returns
 returns c =
-    both_parts c.effect.result (cond_faults (site_of c.args.site.now) c.args.action.now.condition) (effect_faults (site_of c.args.site.now) c.args.action.now.effect) c.args.scope.now.items _ _ _ c.in_ok-best.ensures.same c.in_ok-best.ensures.value c.effect.ensures.value
+    both_parts c.effect.result (cond_faults (site_of c.args.site.now) c.args.action.now.condition) (effect_faults (site_of c.args.site.now) c.args.action.now.effect) c.args.scope.now _ _ _ c.in_ok-best.ensures.same c.in_ok-best.ensures.value c.effect.ensures.value
