@@ -121,15 +121,4 @@ impl Binders {
             self.pop();
         }
     }
-
-    /// Binders of their own with the same variables.
-    pub(crate) fn copy(&self, alloc: Global) -> Result<Binders, AllocError>
-        ensures { IfOk result (λ binders. binders ≡ self.now) }
-    {
-        let mut binders = Binders::new(alloc);
-        for binder in &self.stack {
-            binders.push(alloc, binder.name.as_slice())?;
-        }
-        Ok(binders)
-    }
 }

@@ -18,7 +18,7 @@ mod start;
 use crate::binders::Binders;
 use crate::refusal::Refusal;
 use crate::tables::Tables;
-use binders::{inside, types};
+use binders::{enter, types};
 use conditions::condition;
 use declarations::{objects, symbols, type_names};
 use effects::effect;
@@ -35,12 +35,12 @@ fn action(alloc: Global, tables: &Tables, raw: &RawAction) -> Result<Action, Ref
     requires few { spec.AreFew (declared_of tables.now) }
     ensures { Gives result (spec.action_of (declared_of tables.now) raw.now) }
 {
-    let outer = Binders::new(alloc);
-    let binders = inside(alloc, &outer, raw.parameters.as_slice())?;
+    let mut binders = Binders::new(alloc);
+    enter(alloc, &mut binders, raw.parameters.as_slice())?;
     let name = raw.word.text.copy(alloc)?;
     let parameters = types(alloc, tables, &raw.parameters)?;
-    let condition = condition(alloc, tables, &binders, &raw.condition)?;
-    match effect(alloc, tables, &binders, &raw.effect) {
+    let condition = condition(alloc, tables, &mut binders, &raw.condition)?;
+    match effect(alloc, tables, &mut binders, &raw.effect) {
         Err(refusal) => {
             drop(condition);
             Err(refusal)
@@ -72,8 +72,8 @@ fn goal(alloc: Global, tables: &Tables, raw: &RawCond) -> Result<Cond, Refusal>
     requires few { spec.AreFew (declared_of tables.now) }
     ensures { Gives result (cond_of (declared_of tables.now) raw.now []) }
 {
-    let binders = Binders::new(alloc);
-    condition(alloc, tables, &binders, raw)
+    let mut binders = Binders::new(alloc);
+    condition(alloc, tables, &mut binders, raw)
 }
 
 /// The metric, if there is one.

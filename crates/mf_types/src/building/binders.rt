@@ -1,6 +1,6 @@
-ghost use Rattle.std.specs.Prelude.{◌≡◌, ◌≤◌, ◌++◌, length, IfOk, OnOk};
+ghost use Rattle.std.specs.Prelude.{◌≡◌, ◌≤◌, ◌++◌, length, take, IfOk, OnOk};
 ghost use Rattle.mf_model.specs.Resolution.{typed_names};
-ghost use Rattle.mf_types.specs.Gives.{Gives};
+ghost use Rattle.mf_types.specs.Gives.{Gives, made};
 ghost use Rattle.mf_types.specs.Tables.{declared_of};
 ghost use Rattle.mf_types.specs.Tasks.{AreFew};
 ghost use Rattle.mf_types.specs.Typing as spec;
@@ -17,29 +17,28 @@ use std::alloc::{AllocError, Global};
 // The most variables in scope.
 const MOST_VARIABLES: usize = 64;
 
-/// Puts the variables of a list inside those in scope.
-fn enter(alloc: Global, binders: &mut Binders, items: &[Typed]) -> Result<(), AllocError>
+/// Puts the variables of a list inside those in scope: at most 64 in all.
+#[tactic(auto, unfolding(crate::specs::Typing::inside))]
+pub(crate) fn enter(alloc: Global, binders: &mut Binders, items: &[Typed]) -> Result<(), Refusal>
+    requires { length binders.old ≤ 64 }
+    ensures names { Gives (made (λ done. binders.new) result) (spec.inside binders.old items.now) }
+    ensures room { OnOk result (length binders.new ≤ 64) }
+    ensures outer { OnOk result (take (length binders.old) binders.new ≡ binders.old) }
+{
+    if items.len() > MOST_VARIABLES - binders.len() {
+        return Err(Refusal::Refused);
+    }
+    Ok(add_names(alloc, binders, items)?)
+}
+
+/// Puts the names of items inside those in scope.
+fn add_names(alloc: Global, binders: &mut Binders, items: &[Typed]) -> Result<(), AllocError>
     ensures { OnOk result (binders.new ≡ binders.old ++ typed_names items.now) }
 {
     for item in items {
         binders.push(alloc, item.word.text.as_slice())?;
     }
     Ok(())
-}
-
-/// The variables in scope inside a list of variables.
-#[tactic(auto, unfolding(crate::specs::Typing::inside))]
-pub(crate) fn inside(alloc: Global, binders: &Binders, items: &[Typed]) -> Result<Binders, Refusal>
-    requires { length binders.now ≤ 64 }
-    ensures names { Gives result (spec.inside binders.now items.now) }
-    ensures room { IfOk result (λ names. length names ≤ 64) }
-{
-    if items.len() > MOST_VARIABLES - binders.len() {
-        return Err(Refusal::Refused);
-    }
-    let mut inner = binders.copy(alloc)?;
-    enter(alloc, &mut inner, items)?;
-    Ok(inner)
 }
 
 /// The declared types of each item.

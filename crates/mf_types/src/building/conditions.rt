@@ -1,11 +1,11 @@
-ghost use Rattle.std.specs.Prelude.{◌≡◌, ◌≤◌, length};
+ghost use Rattle.std.specs.Prelude.{◌≡◌, ◌≤◌, length, OnOk};
 ghost use Rattle.mf_model.specs.declared.task.Cond.TheVariants as cond;
 ghost use Rattle.mf_types.specs.Gives.{Gives, made};
 ghost use Rattle.mf_types.specs.Tables.{declared_of};
 ghost use Rattle.mf_types.specs.Tasks.{AreFew};
 ghost use Rattle.mf_types.specs.Typing as spec;
 
-use super::binders::{inside, types};
+use super::binders::{enter, types};
 use super::expressions::expression;
 use super::leaves::{predicate, term, terms};
 use crate::binders::Binders;
@@ -78,12 +78,13 @@ fn comparison(
 pub(crate) fn condition(
     alloc: Global,
     tables: &Tables,
-    binders: &Binders,
+    binders: &mut Binders,
     raw: &RawCond,
 ) -> Result<Cond, Refusal>
     requires few { AreFew (declared_of tables.now) }
-    requires room { length binders.now ≤ 64 }
-    ensures { Gives result (spec.cond_of (declared_of tables.now) raw.now binders.now) }
+    requires room { length binders.old ≤ 64 }
+    ensures value { Gives result (spec.cond_of (declared_of tables.now) raw.now binders.old) }
+    ensures same { OnOk result (binders.new ≡ binders.old) }
 {
     match raw {
         RawCond::Atom {
@@ -121,12 +122,13 @@ pub(crate) fn condition(
 fn negation(
     alloc: Global,
     tables: &Tables,
-    binders: &Binders,
+    binders: &mut Binders,
     raw: &RawCond,
 ) -> Result<Cond, Refusal>
     requires few { AreFew (declared_of tables.now) }
-    requires room { length binders.now ≤ 64 }
-    ensures { Gives result (spec.one cond.Not (spec.cond_of (declared_of tables.now) raw.now binders.now)) }
+    requires room { length binders.old ≤ 64 }
+    ensures value { Gives result (spec.one cond.Not (spec.cond_of (declared_of tables.now) raw.now binders.old)) }
+    ensures same { OnOk result (binders.new ≡ binders.old) }
 {
     let part = boxed(alloc, tables, binders, raw)?;
     Ok(Cond::Not { part })
@@ -136,12 +138,13 @@ fn negation(
 fn conjunction(
     alloc: Global,
     tables: &Tables,
-    binders: &Binders,
+    binders: &mut Binders,
     raws: &[RawCond],
 ) -> Result<Cond, Refusal>
     requires few { AreFew (declared_of tables.now) }
-    requires room { length binders.now ≤ 64 }
-    ensures { Gives result (spec.one cond.And (spec.conds_of (declared_of tables.now) raws.now binders.now)) }
+    requires room { length binders.old ≤ 64 }
+    ensures value { Gives result (spec.one cond.And (spec.conds_of (declared_of tables.now) raws.now binders.old)) }
+    ensures same { OnOk result (binders.new ≡ binders.old) }
 {
     let parts = conditions(alloc, tables, binders, raws)?;
     Ok(Cond::And { parts })
@@ -151,12 +154,13 @@ fn conjunction(
 fn disjunction(
     alloc: Global,
     tables: &Tables,
-    binders: &Binders,
+    binders: &mut Binders,
     raws: &[RawCond],
 ) -> Result<Cond, Refusal>
     requires few { AreFew (declared_of tables.now) }
-    requires room { length binders.now ≤ 64 }
-    ensures { Gives result (spec.one cond.Or (spec.conds_of (declared_of tables.now) raws.now binders.now)) }
+    requires room { length binders.old ≤ 64 }
+    ensures value { Gives result (spec.one cond.Or (spec.conds_of (declared_of tables.now) raws.now binders.old)) }
+    ensures same { OnOk result (binders.new ≡ binders.old) }
 {
     let parts = conditions(alloc, tables, binders, raws)?;
     Ok(Cond::Or { parts })
@@ -167,13 +171,14 @@ fn disjunction(
 fn implication(
     alloc: Global,
     tables: &Tables,
-    binders: &Binders,
+    binders: &mut Binders,
     left: &RawCond,
     right: &RawCond,
 ) -> Result<Cond, Refusal>
     requires few { AreFew (declared_of tables.now) }
-    requires room { length binders.now ≤ 64 }
-    ensures { Gives result (spec.both cond.Imply (spec.cond_of (declared_of tables.now) left.now binders.now) (spec.cond_of (declared_of tables.now) right.now binders.now)) }
+    requires room { length binders.old ≤ 64 }
+    ensures value { Gives result (spec.both cond.Imply (spec.cond_of (declared_of tables.now) left.now binders.old) (spec.cond_of (declared_of tables.now) right.now binders.old)) }
+    ensures same { OnOk result (binders.new ≡ binders.old) }
 {
     let left = boxed(alloc, tables, binders, left)?;
     let right = boxed(alloc, tables, binders, right);
@@ -195,13 +200,14 @@ fn implied(left: Boxed<Cond>, right: Result<Boxed<Cond>, Refusal>) -> Result<Con
 fn universal(
     alloc: Global,
     tables: &Tables,
-    binders: &Binders,
+    binders: &mut Binders,
     variables: &TypedList,
     raw: &RawCond,
 ) -> Result<Cond, Refusal>
     requires few { AreFew (declared_of tables.now) }
-    requires room { length binders.now ≤ 64 }
-    ensures { Gives result (spec.quantified (declared_of tables.now) cond.All variables.now (spec.cond_of (declared_of tables.now) raw.now) binders.now) }
+    requires room { length binders.old ≤ 64 }
+    ensures value { Gives result (spec.quantified (declared_of tables.now) cond.All variables.now (spec.cond_of (declared_of tables.now) raw.now) binders.old) }
+    ensures same { OnOk result (binders.new ≡ binders.old) }
 {
     let types = types(alloc, tables, variables)?;
     let part = inner(alloc, tables, binders, variables, raw)?;
@@ -216,13 +222,14 @@ fn universal(
 fn existential(
     alloc: Global,
     tables: &Tables,
-    binders: &Binders,
+    binders: &mut Binders,
     variables: &TypedList,
     raw: &RawCond,
 ) -> Result<Cond, Refusal>
     requires few { AreFew (declared_of tables.now) }
-    requires room { length binders.now ≤ 64 }
-    ensures { Gives result (spec.quantified (declared_of tables.now) cond.Any variables.now (spec.cond_of (declared_of tables.now) raw.now) binders.now) }
+    requires room { length binders.old ≤ 64 }
+    ensures value { Gives result (spec.quantified (declared_of tables.now) cond.Any variables.now (spec.cond_of (declared_of tables.now) raw.now) binders.old) }
+    ensures same { OnOk result (binders.new ≡ binders.old) }
 {
     let types = types(alloc, tables, variables)?;
     let part = inner(alloc, tables, binders, variables, raw)?;
@@ -237,12 +244,13 @@ fn existential(
 fn boxed(
     alloc: Global,
     tables: &Tables,
-    binders: &Binders,
+    binders: &mut Binders,
     raw: &RawCond,
 ) -> Result<Boxed<Cond>, Refusal>
     requires few { AreFew (declared_of tables.now) }
-    requires room { length binders.now ≤ 64 }
-    ensures { Gives result (spec.cond_of (declared_of tables.now) raw.now binders.now) }
+    requires room { length binders.old ≤ 64 }
+    ensures value { Gives result (spec.cond_of (declared_of tables.now) raw.now binders.old) }
+    ensures same { OnOk result (binders.new ≡ binders.old) }
 {
     let part = condition(alloc, tables, binders, raw)?;
     Ok(Boxed::new(alloc, part)?)
@@ -253,16 +261,20 @@ fn boxed(
 fn inner(
     alloc: Global,
     tables: &Tables,
-    binders: &Binders,
+    binders: &mut Binders,
     variables: &TypedList,
     raw: &RawCond,
 ) -> Result<Boxed<Cond>, Refusal>
     requires few { AreFew (declared_of tables.now) }
-    requires room { length binders.now ≤ 64 }
-    ensures { Gives result (spec.within variables.now (spec.cond_of (declared_of tables.now) raw.now) binders.now) }
+    requires room { length binders.old ≤ 64 }
+    ensures value { Gives result (spec.within variables.now (spec.cond_of (declared_of tables.now) raw.now) binders.old) }
+    ensures same { OnOk result (binders.new ≡ binders.old) }
 {
-    let inner = inside(alloc, binders, variables.as_slice())?;
-    boxed(alloc, tables, &inner, raw)
+    let outer = binders.len();
+    enter(alloc, binders, variables.as_slice())?;
+    let part = boxed(alloc, tables, binders, raw)?;
+    binders.truncate(outer);
+    Ok(part)
 }
 
 /// The parts of a conjunction or a disjunction.
@@ -270,12 +282,13 @@ fn inner(
 fn conditions(
     alloc: Global,
     tables: &Tables,
-    binders: &Binders,
+    binders: &mut Binders,
     raws: &[RawCond],
 ) -> Result<Items<Cond>, Refusal>
     requires few { AreFew (declared_of tables.now) }
-    requires room { length binders.now ≤ 64 }
-    ensures { Gives result (spec.conds_of (declared_of tables.now) raws.now binders.now) }
+    requires room { length binders.old ≤ 64 }
+    ensures value { Gives result (spec.conds_of (declared_of tables.now) raws.now binders.old) }
+    ensures same { OnOk result (binders.new ≡ binders.old) }
 {
     let mut out = Items::new(alloc);
     for raw in raws {

@@ -1,11 +1,11 @@
-ghost use Rattle.std.specs.Prelude.{◌≡◌, ◌≤◌, length};
+ghost use Rattle.std.specs.Prelude.{◌≡◌, ◌≤◌, length, OnOk};
 ghost use Rattle.mf_model.specs.declared.task.Effect.TheVariants as effect;
 ghost use Rattle.mf_types.specs.Gives.{Gives, made};
 ghost use Rattle.mf_types.specs.Tables.{declared_of};
 ghost use Rattle.mf_types.specs.Tasks.{AreFew};
 ghost use Rattle.mf_types.specs.Typing as spec;
 
-use super::binders::{inside, types};
+use super::binders::{enter, types};
 use super::conditions::condition;
 use super::expressions::expression;
 use super::leaves::{function, predicate, terms};
@@ -90,12 +90,13 @@ fn conditional(condition: Cond, part: Result<Boxed<Effect>, Refusal>) -> Result<
 pub(crate) fn effect(
     alloc: Global,
     tables: &Tables,
-    binders: &Binders,
+    binders: &mut Binders,
     raw: &RawEffect,
 ) -> Result<Effect, Refusal>
     requires few { AreFew (declared_of tables.now) }
-    requires room { length binders.now ≤ 64 }
-    ensures { Gives result (spec.effect_of (declared_of tables.now) raw.now binders.now) }
+    requires room { length binders.old ≤ 64 }
+    ensures value { Gives result (spec.effect_of (declared_of tables.now) raw.now binders.old) }
+    ensures same { OnOk result (binders.new ≡ binders.old) }
 {
     match raw {
         RawEffect::Add {
@@ -133,12 +134,13 @@ pub(crate) fn effect(
 fn group(
     alloc: Global,
     tables: &Tables,
-    binders: &Binders,
+    binders: &mut Binders,
     raws: &[RawEffect],
 ) -> Result<Effect, Refusal>
     requires few { AreFew (declared_of tables.now) }
-    requires room { length binders.now ≤ 64 }
-    ensures { Gives result (spec.one effect.Group (spec.effects_of (declared_of tables.now) raws.now binders.now)) }
+    requires room { length binders.old ≤ 64 }
+    ensures value { Gives result (spec.one effect.Group (spec.effects_of (declared_of tables.now) raws.now binders.old)) }
+    ensures same { OnOk result (binders.new ≡ binders.old) }
 {
     let parts = effects(alloc, tables, binders, raws)?;
     Ok(Effect::Group { parts })
@@ -149,13 +151,14 @@ fn group(
 fn each(
     alloc: Global,
     tables: &Tables,
-    binders: &Binders,
+    binders: &mut Binders,
     variables: &TypedList,
     raw: &RawEffect,
 ) -> Result<Effect, Refusal>
     requires few { AreFew (declared_of tables.now) }
-    requires room { length binders.now ≤ 64 }
-    ensures { Gives result (spec.quantified (declared_of tables.now) effect.Each variables.now (spec.effect_of (declared_of tables.now) raw.now) binders.now) }
+    requires room { length binders.old ≤ 64 }
+    ensures value { Gives result (spec.quantified (declared_of tables.now) effect.Each variables.now (spec.effect_of (declared_of tables.now) raw.now) binders.old) }
+    ensures same { OnOk result (binders.new ≡ binders.old) }
 {
     let types = types(alloc, tables, variables)?;
     let part = inner(alloc, tables, binders, variables, raw)?;
@@ -171,13 +174,14 @@ fn each(
 fn when(
     alloc: Global,
     tables: &Tables,
-    binders: &Binders,
+    binders: &mut Binders,
     guard: &RawCond,
     raw: &RawEffect,
 ) -> Result<Effect, Refusal>
     requires few { AreFew (declared_of tables.now) }
-    requires room { length binders.now ≤ 64 }
-    ensures { Gives result (spec.both effect.When (spec.cond_of (declared_of tables.now) guard.now binders.now) (spec.effect_of (declared_of tables.now) raw.now binders.now)) }
+    requires room { length binders.old ≤ 64 }
+    ensures value { Gives result (spec.both effect.When (spec.cond_of (declared_of tables.now) guard.now binders.old) (spec.effect_of (declared_of tables.now) raw.now binders.old)) }
+    ensures same { OnOk result (binders.new ≡ binders.old) }
 {
     let condition = condition(alloc, tables, binders, guard)?;
     let part = boxed(alloc, tables, binders, raw);
@@ -189,12 +193,13 @@ fn when(
 fn boxed(
     alloc: Global,
     tables: &Tables,
-    binders: &Binders,
+    binders: &mut Binders,
     raw: &RawEffect,
 ) -> Result<Boxed<Effect>, Refusal>
     requires few { AreFew (declared_of tables.now) }
-    requires room { length binders.now ≤ 64 }
-    ensures { Gives result (spec.effect_of (declared_of tables.now) raw.now binders.now) }
+    requires room { length binders.old ≤ 64 }
+    ensures value { Gives result (spec.effect_of (declared_of tables.now) raw.now binders.old) }
+    ensures same { OnOk result (binders.new ≡ binders.old) }
 {
     let part = effect(alloc, tables, binders, raw)?;
     Ok(Boxed::new(alloc, part)?)
@@ -205,16 +210,20 @@ fn boxed(
 fn inner(
     alloc: Global,
     tables: &Tables,
-    binders: &Binders,
+    binders: &mut Binders,
     variables: &TypedList,
     raw: &RawEffect,
 ) -> Result<Boxed<Effect>, Refusal>
     requires few { AreFew (declared_of tables.now) }
-    requires room { length binders.now ≤ 64 }
-    ensures { Gives result (spec.within variables.now (spec.effect_of (declared_of tables.now) raw.now) binders.now) }
+    requires room { length binders.old ≤ 64 }
+    ensures value { Gives result (spec.within variables.now (spec.effect_of (declared_of tables.now) raw.now) binders.old) }
+    ensures same { OnOk result (binders.new ≡ binders.old) }
 {
-    let inner = inside(alloc, binders, variables.as_slice())?;
-    boxed(alloc, tables, &inner, raw)
+    let outer = binders.len();
+    enter(alloc, binders, variables.as_slice())?;
+    let part = boxed(alloc, tables, binders, raw)?;
+    binders.truncate(outer);
+    Ok(part)
 }
 
 /// The parts of a group.
@@ -222,12 +231,13 @@ fn inner(
 fn effects(
     alloc: Global,
     tables: &Tables,
-    binders: &Binders,
+    binders: &mut Binders,
     raws: &[RawEffect],
 ) -> Result<Items<Effect>, Refusal>
     requires few { AreFew (declared_of tables.now) }
-    requires room { length binders.now ≤ 64 }
-    ensures { Gives result (spec.effects_of (declared_of tables.now) raws.now binders.now) }
+    requires room { length binders.old ≤ 64 }
+    ensures value { Gives result (spec.effects_of (declared_of tables.now) raws.now binders.old) }
+    ensures same { OnOk result (binders.new ≡ binders.old) }
 {
     let mut out = Items::new(alloc);
     for raw in raws {

@@ -36,4 +36,7 @@ abbrev pub decreases-existential : goal.decreases-existential
 decreases-existential l = 10 * goal.size-existential l + 3
 
 abbrev pub invariant-conditions-loop-raw : goal.invariant-conditions-loop-raw
-invariant-conditions-loop-raw l = with_front l.out (conds_of (declared_of l.tables) (drop l.raw-index l.raws) l.binders) ≡ conds_of (declared_of l.tables) l.raws l.binders
+invariant-conditions-loop-raw l = record {
+  same : l.binders ≡ l.fn.binders;
+  value : with_front l.out (conds_of (declared_of l.tables) (drop l.raw-index l.raws) l.fn.binders) ≡ conds_of (declared_of l.tables) l.raws l.fn.binders;
+}

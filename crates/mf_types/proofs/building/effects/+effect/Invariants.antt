@@ -27,4 +27,7 @@ abbrev pub decreases-when : goal.decreases-when
 decreases-when l = 10 * size-RawEffect l.raw.now + 3
 
 abbrev pub invariant-effects-loop-raw : goal.invariant-effects-loop-raw
-invariant-effects-loop-raw l = with_front l.out (effects_of (declared_of l.tables) (drop l.raw-index l.raws) l.binders) ≡ effects_of (declared_of l.tables) l.raws l.binders
+invariant-effects-loop-raw l = record {
+  same : l.binders ≡ l.fn.binders;
+  value : with_front l.out (effects_of (declared_of l.tables) (drop l.raw-index l.raws) l.fn.binders) ≡ effects_of (declared_of l.tables) l.raws l.fn.binders;
+}
