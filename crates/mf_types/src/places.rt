@@ -26,7 +26,7 @@ pub(crate) fn places(alloc: Global, parents: &[usize]) -> Result<Vec<Option<Plac
     Ok(places)
 }
 
-// A type and those above it, up to one that was seen.
+// A type and those above it, up to type 0, or below one that was seen.
 fn way_up(
     alloc: Global,
     parents: &[usize],
@@ -43,6 +43,9 @@ fn way_up(
         }
         seen[current] = true;
         way.push(current)?;
+        if current == 0 {
+            return Ok(way);
+        }
         current = parent_of(parents, current);
     }
     Ok(way)
