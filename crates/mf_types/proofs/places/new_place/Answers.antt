@@ -1,4 +1,4 @@
-use Rattle.std.proofs.Common.{ℕ, arith, subst}
+use Rattle.std.proofs.Common.{ℕ, subst}
 use Rattle.mf_types.specs.Places.{IsPlace, Leads}
 use Rattle.mf_types.proofs.Depths.{place_below, placed}
 use Rattle.mf_types.proofs.places.new_place.Goals as goal
