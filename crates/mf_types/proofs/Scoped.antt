@@ -1,8 +1,8 @@
 -- The innermost variable of a name, found by its place among the names.
-use Rattle.std.proofs.Common.{◌≡◌, ℕ, zero, suc, ◌+◌, Bool, true, false, if◌then◌else◌, Option, Some, None, List, [], ◌∷◌, ◌++◌, length, slice_index_or, refl, sym, ap, ◌∙◌, arith, append_assoc}
+use Rattle.std.proofs.Common.{◌≡◌, ℕ, suc, ◌+◌, Bool, true, false, if◌then◌else◌, Option, Some, None, List, [], ◌∷◌, ◌++◌, length, slice_index_or, refl, sym, ap, ◌∙◌, arith, append_assoc}
 use Rattle.std.specs.Str.{bytes_eq}
 use Rattle.mf_types.specs.Arguments.{entry, types_at}
-use Rattle.mf_types.specs.Scopes.{Scope, Placed, Variable, find_from, find_in, inner, variable}
+use Rattle.mf_types.specs.Scopes.{Placed, find_from, find_in, inner, variable}
 use Rattle.mf_types.specs.Tasks.{paired}
 use Rattle.mf_types.specs.Typing.{Binders, last_from, place_in}
 

@@ -1,4 +1,3 @@
-use Rattle.std.proofs.Common.{◌∙◌, ap, length, List}
 use Rattle.mf_types.specs.Hiding.{place_of}
 use Rattle.mf_types.proofs.Hiding.{is_there, kept_outside}
 use Rattle.mf_types.proofs.binders.Binders.pop.Goals as goal

@@ -1,7 +1,7 @@
 use Rattle.std.proofs.Common.{◌≡◌, ◌∙◌, ◌<◌, ap, sym, subst, length, Some, [], slice_index_or}
 use Rattle.std.proofs.lemmas.List.{get_or_default}
 use Rattle.mf_types.specs.Arguments.{entry, types_at}
-use Rattle.mf_types.specs.Scopes.{Scope, find_in, variable}
+use Rattle.mf_types.specs.Scopes.{Scope, find_in}
 use Rattle.mf_types.proofs.Scoped.{types_at_place}
 use Rattle.mf_types.proofs.scope.Scope.types_of.Goals as goal
 
