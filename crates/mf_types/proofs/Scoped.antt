@@ -1,5 +1,6 @@
 -- The innermost variable of a name, found by its place among the names.
-use Rattle.std.proofs.Common.{◌≡◌, ℕ, suc, ◌+◌, Bool, true, false, if◌then◌else◌, Option, Some, None, List, [], ◌∷◌, ◌++◌, length, slice_index_or, refl, sym, ap, ◌∙◌, arith, append_assoc}
+use Rattle.std.proofs.Common.{◌≡◌, ℕ, suc, ◌+◌, Bool, true, false, if◌then◌else◌, Option, Some, None, List, [], ◌∷◌, ◌++◌, length, slice_index_or, refl, sym, ap, ◌∙◌, arith, append_assoc, length-append}
+use Rattle.std.proofs.lemmas.List.{get_or-append-add}
 use Rattle.std.specs.Str.{bytes_eq}
 use Rattle.mf_types.specs.Arguments.{entry, types_at}
 use Rattle.mf_types.specs.Scopes.{Placed, find_from, find_in, inner, variable}
@@ -12,8 +13,7 @@ types_or (Some placed) types = Some placed.variable.types
 types_or None types = types
 
 at_end : (front : List (List ℕ)) (own : List ℕ) (rest : List (List ℕ)) → slice_index_or (front ++ own ∷ rest) (length front) [] ≡ own
-at_end [] own rest = refl
-at_end (first ∷ front) own rest = at_end front own rest
+at_end front own rest = ap (λ n. slice_index_or (front ++ own ∷ rest) n []) (omega arith) ∙ get_or-append-add front (own ∷ rest) 0 []
 
 hides : (found : Option Placed) (b : Bool) (n m : ℕ) (name : List ℕ) (front : List (List ℕ)) (own : List ℕ) (rest : List (List ℕ)) (best : Option ℕ) → m ≡ length front → types_or (inner found b n (variable name own)) (entry (front ++ own ∷ rest) best) ≡ types_or found (entry (front ++ own ∷ rest) (if b then Some m else best))
 hides (Some placed) b n m name front own rest best e = refl
@@ -29,15 +29,8 @@ search_goes_on n m (own ∷ names) front (first ∷ types) best name h e =
     let whole : (front ++ first ∷ []) ++ types ≡ front ++ first ∷ types = append_assoc front (first ∷ []) types in
     hides found (bytes_eq own name) n m own front first types best e
     ∙ (ap (λ all. types_or found (entry all place)) (sym whole)
-    ∙ (search_goes_on (suc n) (m + 1) names (front ++ first ∷ []) types place name (omega (arith, h)) (longer front first m e)
+    ∙ (search_goes_on (suc n) (m + 1) names (front ++ first ∷ []) types place name (omega (arith, h)) (omega (arith, e, length-append front (first ∷ [])))
     ∙ ap (λ all. entry all (last_from (m + 1) place names name)) whole))
-  where
-    longer : (front : List (List ℕ)) (first : List ℕ) (m : ℕ) → m ≡ length front → m + 1 ≡ length (front ++ first ∷ [])
-    longer front first m e = omega (arith, e, length_more front first)
-      where
-        length_more : (front : List (List ℕ)) (first : List ℕ) → length (front ++ first ∷ []) ≡ suc (length front)
-        length_more [] first = refl
-        length_more (x ∷ front) first = ap suc (length_more front first)
 
 types_or_none : (found : Option Placed) → types_or found None ≡ types_at found
 types_or_none (Some placed) = refl
