@@ -4,17 +4,20 @@ ghost use Rattle.mf_types.specs.Places as spec;
 ghost use Rattle.mf_types.specs.Related as related;
 
 use crate::cycles::parent_of;
+use crate::from_top::from_top;
 use crate::places::{Place, place_of, places};
+use crate::spans::{Span, spans};
 use mf_model::{List, descends};
 use std::alloc::Global;
 use std::marker::Model;
 
 /// The number of each type's parent, with places by which a distant ancestor is found in few
-/// jumps.
+/// jumps, and spans by which related types are found.
 #[derive(Debug, Drop)]
 pub(crate) struct Ancestry {
     parents: List<usize>,
     places: Vec<Option<Place>>,
+    spans: Vec<Span>,
 }
 
 /// A type with its depth: the number of steps up to type 0.
@@ -36,15 +39,27 @@ impl Model for Ancestry {
 }
 
 impl Ancestry {
-    /// Where there is no memory for places, there are none.
+    /// Where there is no memory for places or spans, there are none.
     pub(crate) fn new(alloc: Global, parents: List<usize>) -> Ancestry
         ensures { result ≡ parents }
     {
-        let places = match places(alloc, parents.as_slice()) {
+        let order = match from_top(alloc, parents.as_slice()) {
+            Ok(order) => order,
+            Err(_) => Vec::new(alloc),
+        };
+        let places = match places(alloc, parents.as_slice(), order.as_slice()) {
             Ok(places) => places,
             Err(_) => Vec::new(alloc),
         };
-        Ancestry { parents, places }
+        let spans = match spans(alloc, parents.as_slice(), order.as_slice()) {
+            Ok(spans) => spans,
+            Err(_) => Vec::new(alloc),
+        };
+        Ancestry {
+            parents,
+            places,
+            spans,
+        }
     }
 
     /// The number of each type's parent.
@@ -57,6 +72,16 @@ impl Ancestry {
     /// The allocator that the table is kept with.
     pub(crate) fn allocator(&self) -> Global {
         self.parents.allocator()
+    }
+
+    /// The number of a type's parent.
+    pub(crate) fn parent(&self, number: usize) -> usize {
+        parent_of(self.as_slice(), number)
+    }
+
+    /// The span of a type.
+    pub(crate) fn span(&self, number: usize) -> Option<Span> {
+        Some(*self.spans.get(number)?)
     }
 
     /// Whether the ancestors of each of these types are found by jumps.

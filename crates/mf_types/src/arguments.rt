@@ -10,7 +10,8 @@ use crate::least::{Fault, FaultKind, at_word, stands_before};
 use crate::scope::Scope;
 use crate::site::Site;
 use crate::tables::Tables;
-use mf_model::{SharedList, Word};
+use crate::type_row::TypeRow;
+use mf_model::Word;
 
 fn is_variable(name: &[u8]) -> bool
     ensures { result ≡ spec.is_variable name.now }
@@ -22,7 +23,7 @@ fn is_variable(name: &[u8]) -> bool
 }
 
 /// The declared types of an object.
-fn types_of_object<'a>(tables: &'a Tables, name: &[u8]) -> Option<&'a [usize]>
+fn types_of_object<'a>(tables: &'a Tables, name: &[u8]) -> Option<&'a TypeRow>
     ensures { option_copied result ≡ spec.object_types (declared_of tables.now) name.now }
 {
     let number = tables.find_object(name)?;
@@ -30,7 +31,7 @@ fn types_of_object<'a>(tables: &'a Tables, name: &[u8]) -> Option<&'a [usize]>
 }
 
 /// The types of a term: those of the innermost variable of its name, or those of the object.
-fn types_of_term<'a>(tables: &'a Tables, scope: &'a Scope, name: &[u8]) -> Option<&'a [usize]>
+fn types_of_term<'a>(tables: &'a Tables, scope: &'a Scope, name: &[u8]) -> Option<&'a TypeRow>
     ensures { option_copied result ≡ spec.term_types (declared_of tables.now) scope.now name.now }
 {
     if is_variable(name) {
@@ -77,7 +78,7 @@ fn argument(
     site: &Site<'_>,
     best: Option<Fault>,
     scope: &Scope,
-    wanted: &[usize],
+    wanted: &TypeRow,
     word: &Word,
 ) -> Option<Fault>
     ensures { result ≡ after best (spec.type_faults (site_of site.now) wanted.now word.now
@@ -100,7 +101,7 @@ fn arguments(
     site: &Site<'_>,
     mut best: Option<Fault>,
     scope: &Scope,
-    mut parameters: &[SharedList<usize>],
+    mut parameters: &[TypeRow],
     words: &[Word],
 ) -> Option<Fault>
     ensures { result ≡ after best
@@ -110,7 +111,7 @@ fn arguments(
         let [wanted, others @ ..] = parameters else {
             return best;
         };
-        best = argument(site, best, scope, wanted.as_slice(), word);
+        best = argument(site, best, scope, wanted, word);
         parameters = others;
     }
     best
@@ -122,7 +123,7 @@ fn symbol(
     site: &Site<'_>,
     best: Option<Fault>,
     scope: &Scope,
-    parameters: Option<&[SharedList<usize>]>,
+    parameters: Option<&[TypeRow]>,
     name: &Word,
     words: &[Word],
 ) -> Option<Fault>
@@ -141,7 +142,7 @@ fn symbol(
 fn count(
     site: &Site<'_>,
     best: Option<Fault>,
-    parameters: &[SharedList<usize>],
+    parameters: &[TypeRow],
     name: &Word,
     words: &[Word],
 ) -> Option<Fault>
@@ -189,7 +190,7 @@ pub(crate) fn function(
 }
 
 /// For each parameter of a predicate its types.
-fn parameters_of_predicate<'a>(tables: &'a Tables, name: &[u8]) -> Option<&'a [SharedList<usize>]>
+fn parameters_of_predicate<'a>(tables: &'a Tables, name: &[u8]) -> Option<&'a [TypeRow]>
     ensures { option_copied result ≡ spec.predicate_parameters (declared_of tables.now) name.now }
 {
     let number = tables.find_predicate(name)?;
@@ -197,10 +198,7 @@ fn parameters_of_predicate<'a>(tables: &'a Tables, name: &[u8]) -> Option<&'a [S
 }
 
 /// For each parameter of a function its types.
-pub(crate) fn parameters_of_function<'a>(
-    tables: &'a Tables,
-    name: &[u8],
-) -> Option<&'a [SharedList<usize>]>
+pub(crate) fn parameters_of_function<'a>(tables: &'a Tables, name: &[u8]) -> Option<&'a [TypeRow]>
     ensures { option_copied result ≡ spec.function_parameters (declared_of tables.now) name.now }
 {
     let number = tables.find_function(name)?;

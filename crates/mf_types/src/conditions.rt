@@ -141,7 +141,7 @@ fn quantifier(
 {
     let outer = scope.len();
     let best = variables(alloc, site, best, outer, items)?;
-    enter(alloc, &site.tables.types, scope, items)?;
+    enter(alloc, site.tables, scope, items)?;
     let best = condition(alloc, site, best, scope, part)?;
     scope.truncate(outer);
     Ok(best)

@@ -148,7 +148,7 @@ fn each(
 {
     let outer = scope.len();
     let best = variables(alloc, site, best, outer, items)?;
-    enter(alloc, &site.tables.types, scope, items)?;
+    enter(alloc, site.tables, scope, items)?;
     let best = effect(alloc, site, best, scope, part)?;
     scope.truncate(outer);
     Ok(best)

@@ -2,8 +2,10 @@ ghost use Rattle.std.specs.Prelude.{◌≡◌, [], ◌∷◌, ◌++◌, map, not
 ghost use Rattle.mf_types.specs.Names as spec;
 ghost use Rattle.mf_types.specs.Tables.{entered};
 
+use crate::ancestry::Ancestry;
 use crate::item_types::types_of_items;
-use mf_model::{Header, List, SharedList, Text, Typed, TypedList};
+use crate::type_row::TypeRow;
+use mf_model::{Header, List, Text, Typed, TypedList};
 use mf_names::Names;
 use std::alloc::{AllocError, Global};
 
@@ -24,8 +26,9 @@ pub(crate) fn enter(alloc: Global, names: &mut Names, name: &Text) -> Result<boo
 pub(crate) fn add_items(
     alloc: Global,
     types: &Names,
+    ancestry: &Ancestry,
     names: &mut Names,
-    out: &mut List<SharedList<usize>>,
+    out: &mut List<TypeRow>,
     items: &TypedList,
 ) -> Result<(), AllocError>
     ensures names { OnOk result (names.new ≡ entered names.old (map spec.item_text items.now)) }
@@ -33,7 +36,7 @@ pub(crate) fn add_items(
         (out.new ≡ out.old ++ map (spec.item_types types.now)
         (spec.firsts spec.item_text names.old items.now)) }
 {
-    let rows = types_of_items(alloc, types, items)?;
+    let rows = types_of_items(alloc, types, Some(ancestry), items)?;
     for (n, item) in items.as_slice().iter().enumerate() {
         add_item(alloc, names, out, item, &rows.as_slice()[n])?;
     }
@@ -44,9 +47,9 @@ pub(crate) fn add_items(
 pub(crate) fn add_item(
     alloc: Global,
     names: &mut Names,
-    out: &mut List<SharedList<usize>>,
+    out: &mut List<TypeRow>,
     item: &Typed,
-    types: &SharedList<usize>,
+    types: &TypeRow,
 ) -> Result<(), AllocError>
     ensures names { OnOk result (names.new ≡ entered names.old (item.now.word.text ∷ [])) }
     ensures types { OnOk result
@@ -63,8 +66,9 @@ pub(crate) fn add_item(
 pub(crate) fn add_headers(
     alloc: Global,
     types: &Names,
+    ancestry: &Ancestry,
     names: &mut Names,
-    out: &mut List<List<SharedList<usize>>>,
+    out: &mut List<List<TypeRow>>,
     headers: &[Header],
 ) -> Result<(), AllocError>
     ensures names { OnOk result (names.new ≡ entered names.old (map spec.header_text headers.now)) }
@@ -73,7 +77,7 @@ pub(crate) fn add_headers(
         (spec.firsts spec.header_text names.old headers.now)) }
 {
     for header in headers {
-        add_header(alloc, types, names, out, header)?;
+        add_header(alloc, types, ancestry, names, out, header)?;
     }
     Ok(())
 }
@@ -81,8 +85,9 @@ pub(crate) fn add_headers(
 fn add_header(
     alloc: Global,
     types: &Names,
+    ancestry: &Ancestry,
     names: &mut Names,
-    out: &mut List<List<SharedList<usize>>>,
+    out: &mut List<List<TypeRow>>,
     header: &Header,
 ) -> Result<(), AllocError>
     ensures names { OnOk result (names.new ≡ entered names.old (header.now.word.text ∷ [])) }
@@ -91,7 +96,7 @@ fn add_header(
         (spec.firsts spec.header_text names.old (header.now ∷ []))) }
 {
     if enter(alloc, names, &header.word.text)? {
-        out.push(types_of_items(alloc, types, &header.parameters)?)?;
+        out.push(types_of_items(alloc, types, Some(ancestry), &header.parameters)?)?;
     }
     Ok(())
 }

@@ -2,24 +2,28 @@ ghost use Rattle.std.specs.Prelude.{◌≡◌, ◌-◌, [], map, IfOk, IfSome, s
 ghost use Rattle.mf_model.specs.TypedLists.{IsAlike};
 ghost use Rattle.mf_types.specs.Names as spec;
 
-use mf_model::{List, SharedList, TypedList, Word};
+use crate::ancestry::Ancestry;
+use crate::type_row::TypeRow;
+use mf_model::{List, TypedList, Word};
 use mf_names::Names;
 use std::alloc::{AllocError, Global};
 
-/// The numbers of the declared types of each item, where the items of a group share one list.
+/// The numbers of the declared types of each item, where the items of a group share one list. It
+/// has a guide where the ancestors of types are known.
 #[tactic(auto, using(crate::proofs::GroupTypes::row_more, crate::proofs::GroupTypes::shared_row))]
 pub(crate) fn types_of_items(
     alloc: Global,
     types: &Names,
+    ancestry: Option<&Ancestry>,
     items: &TypedList,
-) -> Result<List<SharedList<usize>>, AllocError>
+) -> Result<List<TypeRow>, AllocError>
     ensures { IfOk result (λ rows. rows ≡ map (spec.item_types types.now) items.now) }
 {
     let mut rows = List::new(alloc);
     for (n, item) in items.as_slice().iter().enumerate() {
         let row = match row_before(items, rows.as_slice(), n) {
             Some(row) => row.share()?,
-            None => SharedList::from_list(types_of(alloc, types, item.types.as_slice())?)?,
+            None => TypeRow::new(ancestry, types_of(alloc, types, item.types.as_slice())?)?,
         };
         rows.push(row)?;
     }
@@ -27,11 +31,7 @@ pub(crate) fn types_of_items(
 }
 
 /// The types of the item before, where it stands in the same group.
-fn row_before<'r>(
-    items: &TypedList,
-    rows: &'r [SharedList<usize>],
-    at: usize,
-) -> Option<&'r SharedList<usize>>
+fn row_before<'r>(items: &TypedList, rows: &'r [TypeRow], at: usize) -> Option<&'r TypeRow>
     ensures { IfSome result
         (λ row. IsAlike items.now at × (row.now ≡ slice_index_or rows.now (at - 1) [])) }
 {

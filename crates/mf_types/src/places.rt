@@ -11,54 +11,22 @@ pub(crate) struct Place {
     pub(crate) jump: usize,
 }
 
-/// The places of the types in a table with the number of each type's parent. A type from which
-/// the way up doesn't lead to type 0 has none. The time is that of the table.
+/// The places of the types in a table with the number of each type's parent, made in an order in
+/// which parents stand before their children. A type from which the way up doesn't lead to type
+/// 0 has none. The time is that of the table.
 #[tactic(auto, using(crate::proofs::Depths::no_place))]
-pub(crate) fn places(alloc: Global, parents: &[usize]) -> Result<Vec<Option<Place>>, AllocError>
+pub(crate) fn places(
+    alloc: Global,
+    parents: &[usize],
+    order: &[usize],
+) -> Result<Vec<Option<Place>>, AllocError>
     ensures { IfOk result (λ places. spec.ArePlaces parents.now places.items) }
 {
     let mut places = vec![in alloc; None; parents.len()]?;
-    let mut seen = vec![in alloc; false; parents.len()]?;
-    for number in 0..parents.len() {
-        let way = way_up(alloc, parents, seen.as_mut_slice(), number)?;
-        place_way(parents, places.as_mut_slice(), way);
+    for number in order {
+        place_type(parents, places.as_mut_slice(), *number);
     }
     Ok(places)
-}
-
-// A type and those above it, up to type 0, or below one that was seen.
-fn way_up(
-    alloc: Global,
-    parents: &[usize],
-    seen: &mut [bool],
-    from: usize,
-) -> Result<Vec<usize>, AllocError> {
-    let mut way = Vec::new(alloc);
-    let mut current = from;
-    for _step in 0..parents.len() {
-        match seen.get(current) {
-            Some(false) => {}
-            Some(true) => return Ok(way),
-            None => return Ok(way),
-        }
-        seen[current] = true;
-        way.push(current)?;
-        if current == 0 {
-            return Ok(way);
-        }
-        current = parent_of(parents, current);
-    }
-    Ok(way)
-}
-
-// Gives the types of a way their places, from its upper end.
-fn place_way(parents: &[usize], places: &mut [Option<Place>], mut way: Vec<usize>)
-    requires { spec.ArePlaces parents.now places.old }
-    ensures { spec.ArePlaces parents.now places.new }
-{
-    while let Some(number) = way.pop() {
-        place_type(parents, places, number);
-    }
 }
 
 #[tactic(auto, using(crate::proofs::Depths::one_place_more))]

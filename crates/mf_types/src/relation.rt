@@ -82,8 +82,8 @@ fn is_related_to_one(ancestry: &Ancestry, own: usize, others: &[usize]) -> bool
     others.iter().any(|other| is_related(ancestry, own, *other))
 }
 
-// Whether one of two types is the other, or descends from it.
-fn is_related(ancestry: &Ancestry, own: usize, other: usize) -> bool
+/// Whether one of two types is the other, or descends from it.
+pub(crate) fn is_related(ancestry: &Ancestry, own: usize, other: usize) -> bool
     ensures { result ≡ spec.is_related ancestry.now own other }
 {
     ancestry.descends(own, other) || ancestry.descends(other, own)

@@ -5,8 +5,9 @@ ghost use Rattle.mf_types.specs.Scopes as spec;
 
 use crate::binders::Binders;
 use crate::item_types::types_of_items;
-use mf_model::{SharedList, TypedList};
-use mf_names::Names;
+use crate::tables::Tables;
+use crate::type_row::TypeRow;
+use mf_model::TypedList;
 use std::alloc::{AllocError, Global};
 use std::marker::Model;
 
@@ -14,7 +15,7 @@ use std::marker::Model;
 #[derive(Drop)]
 pub(crate) struct Scope {
     binders: Binders,
-    types: Vec<SharedList<usize>>,
+    types: Vec<TypeRow>,
 }
 
 impl Model for Scope {
@@ -47,22 +48,17 @@ impl Scope {
     }
 
     /// The types of the innermost variable of a name.
-    pub(crate) fn types_of(&self, name: &[u8]) -> Option<&[usize]>
+    pub(crate) fn types_of(&self, name: &[u8]) -> Option<&TypeRow>
         ensures { option_copied result ≡ types_at (spec.find_in self.now name.now) }
     {
         match self.binders.find(name) {
-            Some(place) => Some(self.types[place].as_slice()),
+            Some(place) => Some(&self.types[place]),
             None => None,
         }
     }
 
     /// Puts a variable inside the others.
-    fn push(
-        &mut self,
-        alloc: Global,
-        name: &[u8],
-        types: SharedList<usize>,
-    ) -> Result<(), AllocError>
+    fn push(&mut self, alloc: Global, name: &[u8], types: TypeRow) -> Result<(), AllocError>
         ensures ok { OnOk result (self.new ≡ self.old ++ spec.variable name.now types ∷ []) }
         ensures err { OnErr result (self.new ≡ self.old) }
     {
@@ -84,14 +80,14 @@ impl Scope {
 /// Puts the variables of a list inside those in scope.
 pub(crate) fn enter(
     alloc: Global,
-    names: &Names,
+    tables: &Tables,
     scope: &mut Scope,
     items: &TypedList,
 ) -> Result<(), AllocError>
     ensures { OnOk result (scope.new ≡
-        scope.old ++ spec.variables_of names.now items.now) }
+        scope.old ++ spec.variables_of tables.now.types items.now) }
 {
-    let rows = types_of_items(alloc, names, items)?;
+    let rows = types_of_items(alloc, &tables.types, Some(&tables.parents), items)?;
     for (n, item) in items.as_slice().iter().enumerate() {
         let types = rows.as_slice()[n].share()?;
         scope.push(alloc, item.word.text.as_slice(), types)?;

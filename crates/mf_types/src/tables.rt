@@ -1,17 +1,13 @@
-ghost use Rattle.std.specs.Prelude.{◌≡◌, ◌<◌, [], length, IfOk, IfSome, slice_index_or};
+ghost use Rattle.std.specs.Prelude.{◌≡◌, ◌<◌, [], length, IfSome, slice_index_or};
 ghost use Rattle.mf_model.specs.Resolution.{number_of};
-ghost use Rattle.mf_types.specs.Names.{declared_by, is_member};
+ghost use Rattle.mf_types.specs.Names.{is_member};
 ghost use Rattle.mf_types.specs.Related as related;
-ghost use Rattle.mf_types.specs.Tables.{declared_of};
 
 use crate::ancestry::Ancestry;
-use crate::changed::changed;
-use crate::declared::{object_table, symbol_table};
-use crate::relation::are_related;
-use crate::type_table::type_table;
-use mf_model::{Domain, List, Problem, SharedList};
+use crate::related_rows::are_related;
+use crate::type_row::TypeRow;
+use mf_model::List;
 use mf_names::Names;
-use std::alloc::{AllocError, Global};
 
 /// What a domain and a problem declare: names in the order of their numbers, and for each what
 /// its first declaration says. Type 0 is `object`.
@@ -20,40 +16,18 @@ pub(crate) struct Tables {
     pub(crate) types: Names,
     pub(crate) parents: Ancestry,
     pub(crate) objects: Names,
-    pub(crate) object_types: List<SharedList<usize>>,
+    pub(crate) object_types: List<TypeRow>,
+    /// The types of an object that isn't there.
+    pub(crate) no_types: TypeRow,
     pub(crate) predicates: Names,
-    pub(crate) predicate_types: List<List<SharedList<usize>>>,
+    pub(crate) predicate_types: List<List<TypeRow>>,
     pub(crate) functions: Names,
-    pub(crate) function_types: List<List<SharedList<usize>>>,
+    pub(crate) function_types: List<List<TypeRow>>,
     pub(crate) changed: Names,
+    ghost none: { no_types ≡ [] },
 }
 
 impl Tables {
-    pub(crate) fn new(
-        alloc: Global,
-        domain: &Domain,
-        problem: &Problem,
-    ) -> Result<Tables, AllocError>
-        ensures { IfOk result (λ tables. declared_of tables ≡ declared_by domain.now problem.now) }
-    {
-        let types = type_table(alloc, &domain.types)?;
-        let objects = object_table(alloc, &types.names, &domain.constants, &problem.objects)?;
-        let predicates = symbol_table(alloc, &types.names, domain.predicates.as_slice())?;
-        let functions = symbol_table(alloc, &types.names, domain.functions.as_slice())?;
-        let changed = changed(alloc, domain.actions.as_slice())?;
-        Ok(Tables {
-            types: types.names,
-            parents: types.parents,
-            objects: objects.names,
-            object_types: objects.types,
-            predicates: predicates.names,
-            predicate_types: predicates.types,
-            functions: functions.names,
-            function_types: functions.types,
-            changed,
-        })
-    }
-
     /// The number of a type.
     pub(crate) fn find_type(&self, name: &[u8]) -> Option<usize>
         ensures value { result ≡ number_of self.now.types name.now }
@@ -87,17 +61,17 @@ impl Tables {
     }
 
     /// The declared types of an object.
-    pub(crate) fn types_of_object(&self, number: usize) -> &[usize]
+    pub(crate) fn types_of_object(&self, number: usize) -> &TypeRow
         ensures { result.now ≡ slice_index_or self.now.object_types number [] }
     {
         match self.object_types.get(number) {
-            Some(types) => types.as_slice(),
-            None => &[],
+            Some(types) => types,
+            None => &self.no_types,
         }
     }
 
     /// The declared types of each parameter of a predicate.
-    pub(crate) fn types_of_predicate(&self, number: usize) -> &[SharedList<usize>]
+    pub(crate) fn types_of_predicate(&self, number: usize) -> &[TypeRow]
         ensures { result.now ≡ slice_index_or self.now.predicate_types number [] }
     {
         match self.predicate_types.get(number) {
@@ -107,7 +81,7 @@ impl Tables {
     }
 
     /// The declared types of each parameter of a function.
-    pub(crate) fn types_of_function(&self, number: usize) -> &[SharedList<usize>]
+    pub(crate) fn types_of_function(&self, number: usize) -> &[TypeRow]
         ensures { result.now ≡ slice_index_or self.now.function_types number [] }
     {
         match self.function_types.get(number) {
@@ -124,7 +98,7 @@ impl Tables {
     }
 
     /// Whether some type of the one list is equal to, above or below some type of the other.
-    pub(crate) fn are_related(&self, types: &[usize], others: &[usize]) -> bool
+    pub(crate) fn are_related(&self, types: &TypeRow, others: &TypeRow) -> bool
         ensures { result ≡ related.are_related self.now.parents types.now others.now }
     {
         let alloc = self.parents.allocator();

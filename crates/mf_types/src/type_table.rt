@@ -6,7 +6,8 @@ use crate::ancestry::Ancestry;
 use crate::entering::{add_item, enter};
 use crate::item_types::types_of_items;
 use crate::kept::says_nothing;
-use mf_model::{List, SharedList, Text, Typed, TypedList, Word};
+use crate::type_row::TypeRow;
+use mf_model::{List, Text, Typed, TypedList, Word};
 use mf_names::Names;
 use std::alloc::{AllocError, Global};
 
@@ -124,7 +125,7 @@ fn add_kept(
     alloc: Global,
     types: &Names,
     names: &mut Names,
-    out: &mut List<SharedList<usize>>,
+    out: &mut List<TypeRow>,
     items: &TypedList,
 ) -> Result<(), AllocError>
     ensures names { OnOk result
@@ -133,7 +134,7 @@ fn add_kept(
         (out.new ≡ out.old ++ map (spec.item_types types.now)
         (spec.firsts spec.item_text names.old (spec.kept_types items.now))) }
 {
-    let rows = types_of_items(alloc, types, items)?;
+    let rows = types_of_items(alloc, types, None, items)?;
     for (n, item) in items.as_slice().iter().enumerate() {
         add_if_kept(alloc, names, out, item, &rows.as_slice()[n])?;
     }
@@ -143,9 +144,9 @@ fn add_kept(
 fn add_if_kept(
     alloc: Global,
     names: &mut Names,
-    out: &mut List<SharedList<usize>>,
+    out: &mut List<TypeRow>,
     item: &Typed,
-    types: &SharedList<usize>,
+    types: &TypeRow,
 ) -> Result<(), AllocError>
     ensures names { OnOk result
         (names.new ≡ entered names.old (map spec.item_text (spec.kept_types (item.now ∷ [])))) }
@@ -164,7 +165,7 @@ fn parents(
     alloc: Global,
     words: &[&Word],
     own: &Names,
-    types: &[SharedList<usize>],
+    types: &[TypeRow],
 ) -> Result<Ancestry, AllocError>
     ensures { IfOk result
         (λ parents. parents
@@ -179,7 +180,7 @@ fn parents(
     Ok(Ancestry::new(alloc, parents))
 }
 
-fn parent_of(own: &Names, types: &[SharedList<usize>], name: &[u8]) -> usize
+fn parent_of(own: &Names, types: &[TypeRow], name: &[u8]) -> usize
     ensures { result ≡ parent_by own.now types.now name.now }
 {
     match own.find(name) {
@@ -188,7 +189,7 @@ fn parent_of(own: &Names, types: &[SharedList<usize>], name: &[u8]) -> usize
     }
 }
 
-fn first_type(types: &[SharedList<usize>], number: usize) -> usize
+fn first_type(types: &[TypeRow], number: usize) -> usize
     ensures { result ≡ spec.head_or_zero (slice_index_or types.now number []) }
 {
     match types.get(number) {

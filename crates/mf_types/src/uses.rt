@@ -79,7 +79,7 @@ fn uses_of_action(
     let words = item_words(alloc, action.parameters.as_slice())?;
     let best = beyond(best, site.file, MOST_VARIABLES, words.as_slice());
     let mut scope = Scope::new(alloc);
-    enter(alloc, &site.tables.types, &mut scope, &action.parameters)?;
+    enter(alloc, site.tables, &mut scope, &action.parameters)?;
     let best = body(alloc, site, best, &mut scope, action)?;
     Ok(best)
 }

@@ -51,7 +51,7 @@ pub(crate) fn types(
     requires few { AreFew (declared_of tables.now) }
     ensures { IfOk result (λ types. types ≡ spec.types_in (declared_of tables.now) items.now) }
 {
-    let rows = types_of_items(alloc, &tables.types, items)?;
+    let rows = types_of_items(alloc, &tables.types, None, items)?;
     let mut narrow_rows = NarrowRows::new(alloc)?;
     narrow_all(alloc, &mut narrow_rows, rows.as_slice())
 }

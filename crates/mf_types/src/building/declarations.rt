@@ -2,7 +2,8 @@ ghost use Rattle.std.specs.Prelude.{◌≡◌, All, IfOk};
 ghost use Rattle.mf_types.specs.Tasks as spec;
 
 use super::narrow_rows::NarrowRows;
-use mf_model::{List, Object, SharedList, Symbol, Text, TypeName, Types};
+use crate::type_row::TypeRow;
+use mf_model::{List, Object, Symbol, Text, TypeName, Types};
 use mf_names::Names;
 use std::alloc::{AllocError, Global};
 
@@ -10,14 +11,14 @@ use std::alloc::{AllocError, Global};
 pub(crate) fn narrow_all(
     alloc: Global,
     rows: &mut NarrowRows,
-    lists: &[SharedList<usize>],
+    lists: &[TypeRow],
 ) -> Result<List<Types>, AllocError>
     requires { All spec.IsNarrow lists.now }
     ensures { IfOk result (λ types. types ≡ lists.now) }
 {
     let mut out = List::new(alloc);
     for numbers in lists {
-        out.push(rows.narrow(alloc, numbers)?)?;
+        out.push(rows.narrow(alloc, numbers.numbers())?)?;
     }
     Ok(out)
 }
@@ -48,7 +49,7 @@ pub(crate) fn type_names(
 pub(crate) fn objects(
     alloc: Global,
     names: &Names,
-    types: &[SharedList<usize>],
+    types: &[TypeRow],
 ) -> Result<List<Object>, AllocError>
     requires { All spec.IsNarrow types.now }
     ensures { IfOk result (λ objects. objects ≡ spec.paired spec.object_named names.now types.now) }
@@ -61,7 +62,7 @@ pub(crate) fn objects(
         };
         out.push(Object {
             name: Text::from_slice(alloc, name)?,
-            types: rows.narrow(alloc, numbers)?,
+            types: rows.narrow(alloc, numbers.numbers())?,
         })?;
     }
     Ok(out)
@@ -71,7 +72,7 @@ pub(crate) fn objects(
 pub(crate) fn symbols(
     alloc: Global,
     names: &Names,
-    types: &[List<SharedList<usize>>],
+    types: &[List<TypeRow>],
 ) -> Result<List<Symbol>, AllocError>
     requires { All (All spec.IsNarrow) types.now }
     ensures { IfOk result (λ symbols. symbols ≡ spec.paired spec.symbol_named names.now types.now) }

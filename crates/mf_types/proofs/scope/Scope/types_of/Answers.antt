@@ -12,7 +12,7 @@ returns-in-Some c =
     let name = c.args.name.now in
     let found : Scope → _ = λ scope. types_at (find_in scope name) in
     let within : c.in-Some.place < length types = subst (λ n. c.in-Some.place < n) (sym c.self.invariant) c.in-Some.ensures.within in
-    let own : c.as_slice.result.now ≡ slice_index_or types c.in-Some.place [] = c.as_slice.ensures ∙ (c.index.ensures ∙ get_or_default types c.in-Some.place c.index.result.now [] within) in
+    let own : c.index.result.now ≡ slice_index_or types c.in-Some.place [] = c.index.ensures ∙ get_or_default types c.in-Some.place c.index.result.now [] within in
     ap Some own
     ∙ (ap (entry types) (sym c.in-Some.is ∙ c.find.ensures.value)
     ∙ (types_at_place names types name c.self.invariant
