@@ -8,10 +8,13 @@ use crate::relation::{are_related as are_lists_related, is_related};
 use crate::type_row::TypeRow;
 use std::alloc::Global;
 
+// So many pairs of types are looked at one by one.
+const MOST_PAIRS: usize = 1024;
+
 /// Whether some type of the one row is equal to, above or below some type of the other.
 ///
-/// Two related types are looked for by spans first, and checked. Only where none are found the
-/// lists are compared as a whole: in a task without faults never, since spans are right there.
+/// Two related types are looked for by spans first, and checked. Only where none are found, the
+/// lists are compared as a whole.
 pub(crate) fn are_related(
     alloc: Global,
     ancestry: &Ancestry,
@@ -70,6 +73,9 @@ fn find_among_few(
     types: &[usize],
     others: &[usize],
 ) -> Option<(usize, usize)> {
+    if types.len().saturating_mul(others.len()) > MOST_PAIRS {
+        return None;
+    }
     for (at, own) in types.iter().enumerate() {
         let own = ancestry.span(*own)?;
         for (other_at, other) in others.iter().enumerate() {
