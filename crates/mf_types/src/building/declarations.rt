@@ -17,8 +17,8 @@ pub(crate) fn narrow_all(
     ensures { IfOk result (λ types. types ≡ lists.now) }
 {
     let mut out = List::new(alloc);
-    for numbers in lists {
-        out.push(rows.narrow(alloc, numbers.numbers())?)?;
+    for row in lists {
+        out.push(rows.narrow(alloc, row.numbers())?)?;
     }
     Ok(out)
 }
@@ -56,13 +56,13 @@ pub(crate) fn objects(
 {
     let mut out = List::new(alloc);
     let mut rows = NarrowRows::new(alloc)?;
-    for (n, numbers) in types.iter().enumerate() {
+    for (n, row) in types.iter().enumerate() {
         let Some(name) = names.get(n) else {
             return Ok(out);
         };
         out.push(Object {
             name: Text::from_slice(alloc, name)?,
-            types: rows.narrow(alloc, numbers.numbers())?,
+            types: rows.narrow(alloc, row.numbers())?,
         })?;
     }
     Ok(out)

@@ -1,5 +1,5 @@
 use Rattle.std.proofs.Common.{◌≡◌, take}
 use Rattle.mf_types.proofs.building.declarations.narrow_all.Given as goal
 
-abbrev pub invariant-loop-numbers : goal.invariant-loop-numbers
-invariant-loop-numbers l = l.out ≡ take l.numbers-index l.lists
+abbrev pub invariant-loop-row : goal.invariant-loop-row
+invariant-loop-row l = l.out ≡ take l.row-index l.lists
