@@ -1,10 +1,11 @@
-ghost use Rattle.std.specs.Prelude.{◌≡◌, ◌<◌, ◌≤◌, ◌-◌, IfSome};
+ghost use Rattle.std.specs.Prelude.{◌≡◌, ◌≢◌, ◌<◌, ◌≤◌, ◌-◌, IfSome, IsTrue};
+ghost use Rattle.std.specs.Bool.{OnTrue};
 ghost use Rattle.mf_types.specs.Ascent.{up};
 ghost use Rattle.mf_types.specs.Places as spec;
 ghost use Rattle.mf_types.specs.Related as related;
 
-use crate::cycles::parent_of;
 use crate::from_top::from_top;
+use crate::number_at::number_at;
 use crate::places::{Place, place_of, places};
 use crate::spans::{Span, spans};
 use mf_model::{List, descends};
@@ -20,9 +21,10 @@ pub(crate) struct Ancestry {
     spans: Vec<Span>,
 }
 
-/// A type with its depth: the number of steps up to type 0.
+/// A type with the root of its tree and its depth: the number of steps up to the root.
 #[derive(Clone, Copy, Debug)]
 pub(crate) struct Ancestor {
+    root: usize,
     number: usize,
     depth: usize,
 }
@@ -51,7 +53,7 @@ impl Ancestry {
             Ok(places) => places,
             Err(_) => Vec::new(alloc),
         };
-        let spans = match spans(alloc, parents.as_slice(), order.as_slice()) {
+        let spans = match spans(alloc, parents.as_slice(), order.as_slice(), places.as_slice()) {
             Ok(spans) => spans,
             Err(_) => Vec::new(alloc),
         };
@@ -76,7 +78,7 @@ impl Ancestry {
 
     /// The number of a type's parent.
     pub(crate) fn parent(&self, number: usize) -> usize {
-        parent_of(self.as_slice(), number)
+        number_at(self.as_slice(), number)
     }
 
     /// The span of a type.
@@ -86,38 +88,83 @@ impl Ancestry {
 
     /// Whether the ancestors of each of these types are found by jumps.
     pub(crate) fn has_jumps(&self, types: &[usize]) -> bool {
-        types.iter().all(|own| self.place(*own).is_some())
+        types.iter().all(|own| self.is_below_top(*own))
     }
 
-    /// Whether a type is the other one, or descends from it.
-    pub(crate) fn descends(&self, own: usize, other: usize) -> bool
-        ensures { result ≡ related.descends self.now own other }
-    {
-        match (self.place(own), self.place(other)) {
-            (Some(from), Some(to)) => self.climbs_to(own, from, other, to),
-            _ => descends(self.as_slice(), own, other),
+    fn is_below_top(&self, own: usize) -> bool {
+        match self.place(own) {
+            Some(place) => place.root == 0,
+            None => false,
         }
     }
 
+    /// Whether one of two types is the other, or descends from it.
+    pub(crate) fn is_related(&self, own: usize, other: usize) -> bool
+        ensures { result ≡ related.is_related self.now own other }
+    {
+        match (self.find(own, other), self.find(other, own)) {
+            (Some(up), Some(down)) => up || down,
+            (Some(true), None) => true,
+            (None, Some(true)) => true,
+            _ => {
+                descends(self.as_slice(), own, other) || descends(self.as_slice(), other, own)
+            }
+        }
+    }
+
+    // Whether a type is the other one, or descends from it, where places tell.
+    fn find(&self, own: usize, other: usize) -> Option<bool>
+        ensures { IfSome result (λ b. b ≡ related.descends self.now own other) }
+    {
+        let from = self.place(own)?;
+        let to = self.place(other)?;
+        if from.root != to.root {
+            return None;
+        }
+        let climbs = self.climbs_to(own, from, other, to);
+        if from.root == 0 {
+            return Some(climbs);
+        }
+        if climbs || self.goes_round(own, from, other, to) {
+            return Some(true);
+        }
+        None
+    }
+
     fn climbs_to(&self, own: usize, from: Place, other: usize, to: Place) -> bool
-        requires from { spec.IsPlace self.now own from }
-        requires to { spec.IsPlace self.now other to }
-        ensures { result ≡ related.descends self.now own other }
+        requires { spec.IsPlace self.now own from }
+        ensures { result ≡ spec.climbs_to self.now from.depth to.depth own other }
     {
         if from.depth < to.depth {
             return false;
         }
         let from = Ancestor {
+            root: from.root,
             number: own,
             depth: from.depth,
         };
         self.climb(from, to.depth) == other
     }
 
+    // Whether the way up from a type passes the root of its tree, which is of a cycle, and leads
+    // on to the other one.
+    fn goes_round(&self, own: usize, from: Place, other: usize, to: Place) -> bool
+        requires place { spec.IsPlace self.now own from }
+        requires root { from.root ≢ 0 }
+        ensures { OnTrue result (IsTrue (related.descends self.now own other)) }
+    {
+        let last = number_at(self.as_slice(), from.root);
+        let Some(around) = self.place(last) else {
+            return false;
+        };
+        let left = self.as_slice().len() - from.depth - 1;
+        around.depth.saturating_sub(to.depth) < left && self.climbs_to(last, around, other, to)
+    }
+
     // The ancestor at a depth.
     #[tactic(auto, using(crate::proofs::Depths::climb_goes_on, crate::proofs::Depths::climb_ends))]
     fn climb(&self, from: Ancestor, depth: usize) -> usize
-        requires from { spec.HasDepth self.now from.depth from.number }
+        requires from { spec.Stands self.now from }
         requires above { depth ≤ from.depth }
         ensures { result ≡ up self.now (from.depth - depth) from.number }
     {
@@ -131,7 +178,7 @@ impl Ancestry {
     // One step up, or a jump that doesn't lead past a depth.
     #[tactic(auto, using(crate::proofs::Depths::parent_is_ancestor))]
     fn stride(&self, from: Ancestor, depth: usize) -> Ancestor
-        requires from { spec.HasDepth self.now from.depth from.number }
+        requires from { spec.Stands self.now from }
         requires above { depth < from.depth }
         ensures ancestor { spec.IsAncestor self.now from result }
         ensures above { depth ≤ result.depth }
@@ -139,20 +186,28 @@ impl Ancestry {
         match self.jump(from) {
             Some(jump) if depth <= jump.depth => jump,
             _ => Ancestor {
-                number: parent_of(self.as_slice(), from.number),
+                root: from.root,
+                number: number_at(self.as_slice(), from.number),
                 depth: from.depth - 1,
             },
         }
     }
 
     fn jump(&self, from: Ancestor) -> Option<Ancestor>
-        requires from { spec.HasDepth self.now from.depth from.number }
+        requires from { spec.Stands self.now from }
         requires above { 0 < from.depth }
         ensures { IfSome result (spec.IsAncestor self.now from) }
     {
-        let number = self.place(from.number)?.jump;
-        let depth = self.place(number)?.depth;
-        Some(Ancestor { number, depth })
+        let place = self.place(from.number)?;
+        let above = self.place(place.jump)?;
+        if place.root != from.root || above.root != from.root {
+            return None;
+        }
+        Some(Ancestor {
+            root: from.root,
+            number: place.jump,
+            depth: above.depth,
+        })
     }
 
     fn place(&self, number: usize) -> Option<Place>

@@ -1,4 +1,4 @@
-ghost use Rattle.std.specs.Prelude.{◌≡◌, ℕ, List, [], ◌∷◌, ◌||◌, IfOk, OnOk, slice_index_or};
+ghost use Rattle.std.specs.Prelude.{◌≡◌, ℕ, List, [], ◌∷◌, ◌||◌, IfOk, OnOk};
 ghost use Rattle.mf_model.specs.Objects.{member};
 ghost use Rattle.mf_types.specs.Ascent.{Settles, SettlesMore, IsClimb};
 ghost use Rattle.mf_types.specs.Cycles as spec;
@@ -8,6 +8,7 @@ ghost use Rattle.mf_types.specs.Tables.{declared_of};
 
 use crate::kept::says_nothing;
 use crate::least::{Fault, FaultKind, at_word};
+use crate::number_at::number_at;
 use crate::tables::Tables;
 use indexmap::IndexSet;
 use mf_model::{FileKind, Typed};
@@ -83,7 +84,7 @@ fn go_up(parents: &[usize], settled: &IndexSet<usize>, from: usize) -> Climb
                 returned: false,
             };
         }
-        current = parent_of(parents, current);
+        current = number_at(parents, current);
         if current == from {
             return Climb {
                 steps: steps + 1,
@@ -113,17 +114,7 @@ fn contains(types: &IndexSet<usize>, number: usize) -> bool
 fn is_top(parents: &[usize], number: usize) -> bool
     ensures { result ≡ spec.is_top parents.now number }
 {
-    number == 0 && parent_of(parents, 0) == 0
-}
-
-/// The number of a type's parent.
-pub(crate) fn parent_of(parents: &[usize], number: usize) -> usize
-    ensures { result ≡ slice_index_or parents.now number 0 }
-{
-    match parents.get(number) {
-        Some(parent) => *parent,
-        None => 0,
-    }
+    number == 0 && number_at(parents, 0) == 0
 }
 
 // Settles a type and so many above it.
@@ -138,7 +129,7 @@ fn settle(
     let mut current = from;
     add(settled, current)?;
     for _step in 0..steps {
-        current = parent_of(parents, current);
+        current = number_at(parents, current);
         add(settled, current)?;
     }
     Ok(())

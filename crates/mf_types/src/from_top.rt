@@ -1,4 +1,4 @@
-use crate::cycles::parent_of;
+use crate::number_at::number_at;
 use std::alloc::{AllocError, Global};
 
 /// The types in an order in which parents stand before their children, by a table with the number
@@ -35,7 +35,7 @@ fn way_up(
         if current == 0 {
             return Ok(way);
         }
-        current = parent_of(parents, current);
+        current = number_at(parents, current);
     }
     Ok(way)
 }

@@ -25,6 +25,7 @@ mod least;
 mod listing;
 mod marks;
 mod meaning;
+mod number_at;
 mod number_set;
 mod places;
 mod quantified;

@@ -3,7 +3,7 @@ ghost use Rattle.std.specs.Bool.{OnTrue};
 ghost use Rattle.std.specs.List.{list_any};
 ghost use Rattle.mf_types.specs.Marks as spec;
 
-use crate::cycles::parent_of;
+use crate::number_at::number_at;
 use std::alloc::Global;
 
 /// Marks some types and all above them, in a table with the number of each type's parent. `None`
@@ -36,7 +36,7 @@ fn mark_way(parents: &[usize], marks: &mut [bool], from: usize) -> bool
         if current == 0 {
             return true;
         }
-        current = parent_of(parents, current);
+        current = number_at(parents, current);
     }
     false
 }

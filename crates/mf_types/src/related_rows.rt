@@ -4,7 +4,7 @@ ghost use Rattle.mf_types.specs.Related as spec;
 
 use crate::ancestry::Ancestry;
 use crate::guide::Guide;
-use crate::relation::{are_related as are_lists_related, is_related};
+use crate::relation::are_related as are_lists_related;
 use crate::type_row::TypeRow;
 use std::alloc::Global;
 
@@ -41,7 +41,7 @@ fn are_related_at(
     ensures { OnTrue result (IsTrue (spec.are_related ancestry.now types.now others.now)) }
 {
     match (types.get(at), others.get(other_at)) {
-        (Some(own), Some(other)) => is_related(ancestry, *own, *other),
+        (Some(own), Some(other)) => ancestry.is_related(*own, *other),
         _ => false,
     }
 }

@@ -79,12 +79,5 @@ fn is_some_related(ancestry: &Ancestry, types: &[usize], others: &[usize]) -> bo
 fn is_related_to_one(ancestry: &Ancestry, own: usize, others: &[usize]) -> bool
     ensures { result ≡ list_any (λ other. spec.is_related ancestry.now own other) others.now }
 {
-    others.iter().any(|other| is_related(ancestry, own, *other))
-}
-
-/// Whether one of two types is the other, or descends from it.
-pub(crate) fn is_related(ancestry: &Ancestry, own: usize, other: usize) -> bool
-    ensures { result ≡ spec.is_related ancestry.now own other }
-{
-    ancestry.descends(own, other) || ancestry.descends(other, own)
+    others.iter().any(|other| ancestry.is_related(own, *other))
 }

@@ -1,8 +1,10 @@
-use crate::cycles::parent_of;
+use crate::number_at::number_at;
+use crate::places::{Place, place_of};
 use std::alloc::{AllocError, Global};
 
 /// The numbers of a type and of those below it, where each type is numbered before those below
 /// it, and these before any others: from `first`, which is that of the type, to before `behind`.
+/// Types of one cycle stand below each other, so they share the span of their root.
 #[derive(Clone, Copy, Debug)]
 pub(crate) struct Span {
     pub(crate) first: usize,
@@ -16,60 +18,94 @@ impl Span {
     }
 }
 
-/// The span of each type, by the number of its parent and an order in which parents stand before
-/// their children. No clause says that they are right: what is found by them is to be checked.
+/// The span of each type, by the number of its parent, its place and an order in which parents
+/// stand before their children, but for the roots. No clause says that they are right: what is
+/// found by them is to be checked.
 pub(crate) fn spans(
     alloc: Global,
     parents: &[usize],
     order: &[usize],
+    places: &[Option<Place>],
 ) -> Result<Vec<Span>, AllocError> {
-    let sizes = sizes(alloc, parents, order)?;
+    let sizes = sizes(alloc, parents, order, places)?;
     let mut next = vec![in alloc; 0usize; parents.len()]?;
     let mut spans = vec![in alloc; Span {
         first: 0,
         behind: 0
     }; parents.len()]?;
+    let mut last = 0;
     for own in order {
         let size = number_at(sizes.as_slice(), *own);
-        let first = take_numbers(next.as_mut_slice(), parents, *own, size);
-        if let Some(span) = spans.get_mut(*own) {
-            *span = Span {
-                first,
-                behind: first.saturating_add(size),
-            };
+        let first = if is_root(places, *own) {
+            last
+        } else {
+            take_numbers(next.as_mut_slice(), number_at(parents, *own), size)
+        };
+        let behind = first.saturating_add(size);
+        last = last.max(behind);
+        add(next.as_mut_slice(), *own, first.saturating_add(1));
+        set(spans.as_mut_slice(), *own, Span { first, behind });
+    }
+    for own in order {
+        if is_root(places, *own) {
+            share_round(spans.as_mut_slice(), parents, *own);
         }
     }
     Ok(spans)
 }
 
 // How many types each span has, the type itself among them.
-fn sizes(alloc: Global, parents: &[usize], order: &[usize]) -> Result<Vec<usize>, AllocError> {
+fn sizes(
+    alloc: Global,
+    parents: &[usize],
+    order: &[usize],
+    places: &[Option<Place>],
+) -> Result<Vec<usize>, AllocError> {
     let mut sizes = vec![in alloc; 1usize; parents.len()]?;
     for own in order.iter().rev() {
         let size = number_at(sizes.as_slice(), *own);
-        if *own != 0 {
-            add(sizes.as_mut_slice(), parent_of(parents, *own), size);
+        if !is_root(places, *own) {
+            add(sizes.as_mut_slice(), number_at(parents, *own), size);
         }
     }
     Ok(sizes)
 }
 
-// Takes the next numbers of the parent for a type, and says which is the first.
-fn take_numbers(next: &mut [usize], parents: &[usize], own: usize, size: usize) -> usize {
-    let parent = parent_of(parents, own);
-    let mut first = 0;
-    if own != 0 {
-        first = number_at(next, parent);
-        add(next, parent, size);
+fn is_root(places: &[Option<Place>], own: usize) -> bool {
+    match place_of(places, own) {
+        Some(place) => place.depth == 0,
+        None => false,
     }
-    add(next, own, first.saturating_add(1));
+}
+
+// Takes the next numbers of the parent, and says which is the first.
+fn take_numbers(next: &mut [usize], parent: usize, size: usize) -> usize {
+    let first = number_at(next, parent);
+    add(next, parent, size);
     first
 }
 
-fn number_at(numbers: &[usize], at: usize) -> usize {
-    match numbers.get(at) {
-        Some(number) => *number,
-        None => 0,
+// Gives the span of a root to the types of its cycle.
+fn share_round(spans: &mut [Span], parents: &[usize], root: usize) {
+    let Some(span) = spans.get(root).copied() else {
+        return;
+    };
+    let mut current = root;
+    for _step in 0..parents.len() {
+        if current == 0 {
+            return;
+        }
+        set(spans, current, span);
+        current = number_at(parents, current);
+        if current == root {
+            return;
+        }
+    }
+}
+
+fn set(spans: &mut [Span], at: usize, span: Span) {
+    if let Some(own) = spans.get_mut(at) {
+        *own = span;
     }
 }
 

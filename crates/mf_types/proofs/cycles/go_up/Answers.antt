@@ -8,7 +8,7 @@ loop-steps-init c = walk_begins c.args.parents.now c.args.settled.now.keys c.arg
 pub loop-steps-preserved : goal.loop-steps-preserved
 loop-steps-preserved c =
     walk_goes_on c.args.parents.now c.args.settled.now.keys c.args.from c.loop-steps.steps c.loop-steps.current c.loop-steps.invariant
-    c.parent_of-current.result (sym c.is_end.ensures ∙ c.if-is_end.false) c.parent_of-current.ensures c.if-current-from.false
+    c.number_at-current.result (sym c.is_end.ensures ∙ c.if-is_end.false) c.number_at-current.ensures c.if-current-from.false
 
 pub returns-then-is_end : goal.returns-then-is_end
 returns-then-is_end c = λ before settles.
@@ -18,7 +18,7 @@ returns-then-is_end c = λ before settles.
 pub returns-then-current-from : goal.returns-then-current-from
 returns-then-current-from c = λ before settles.
     climb_returns c.args.parents.now c.args.settled.now.keys c.args.from c.loop-steps.steps c.loop-steps.current c.loop-steps.invariant
-    before c.parent_of-current.result settles (omega arith) (sym c.is_end.ensures ∙ c.if-is_end.false) c.parent_of-current.ensures c.if-current-from.true
+    before c.number_at-current.result settles (omega arith) (sym c.is_end.ensures ∙ c.if-is_end.false) c.number_at-current.ensures c.if-current-from.true
 
 pub returns : goal.returns
 returns c = λ before settles.

@@ -8,8 +8,8 @@ loop-step-init c = settling_begins c.args.parents.now c.args.settled.now.keys c.
 
 pub loop-step-preserved : goal.loop-step-preserved
 loop-step-preserved c =
-    settling_goes_on c.args.parents.now c.args.settled.now.keys c.loop-step.settled.keys c.add-in-loop-step.new.settled.keys c.args.from c.loop-step._step c.loop-step.current c.parent_of-current.result
-    c.loop-step.invariant c.parent_of-current.ensures c.in_ok-add-2.ensures
+    settling_goes_on c.args.parents.now c.args.settled.now.keys c.loop-step.settled.keys c.add-in-loop-step.new.settled.keys c.args.from c.loop-step._step c.loop-step.current c.number_at-current.result
+    c.loop-step.invariant c.number_at-current.ensures c.in_ok-add-2.ensures
 
 pub returns : goal.returns
 returns c =

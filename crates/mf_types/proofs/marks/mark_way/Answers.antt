@@ -16,5 +16,5 @@ returns-then-current-eq0 c =
 pub loop-step-preserved : goal.loop-step-preserved
 loop-step-preserved c =
     let within : c.loop-step.current < length c.loop-step.marks = search rules in
-    rw c.parent_of-current.ensures
+    rw c.number_at-current.ensures
     (way_goes_on c.args.parents.now c.args.from c.loop-step._step c.loop-step.current c.args.marks.now c.loop-step.marks c.loop-step.invariant c.loop-step-test.true within c.if-current-eq0.false)
