@@ -1,5 +1,5 @@
 -- Going up: on a cycle the way leads round, and what is met above a type is so many steps up.
-use Rattle.std.proofs.Common.{◌≡◌, ℕ, zero, suc, ◌<◌, ◌≤◌, ◌⊎◌, inl, inr, Bool, true, false, ◌||◌, if◌then◌else◌, nat_eq, List, [], ◌∷◌, length, refl, sym, ap, ◌∙◌, arith}
+use Rattle.std.proofs.Common.{◌≡◌, ℕ, zero, suc, ◌+◌, ◌<◌, ◌≤◌, ◌⊎◌, inl, inr, Bool, true, false, ◌||◌, if◌then◌else◌, nat_eq, List, [], ◌∷◌, length, refl, sym, ap, ◌∙◌, arith}
 use Rattle.std.proofs.lemmas.Bool.{cases_lt}
 use Rattle.std.proofs.lemmas.Bool.Decides.{Decides-eqb}
 use Rattle.mf_model.specs.Objects.{meets, member}
@@ -9,6 +9,13 @@ use Rattle.mf_types.specs.Cycles.{is_top, above, all_above}
 pub up_last : (parents : List ℕ) (n t : ℕ) → up parents (suc n) t ≡ parent_at parents (up parents n t)
 up_last parents zero t = refl
 up_last parents (suc n) t = up_last parents n (parent_at parents t)
+
+pub up_further : (parents : List ℕ) (n k m t : ℕ) → n ≡ k + m → up parents n t ≡ up parents m (up parents k t)
+up_further parents n zero m t is =
+    let same : n ≡ m = omega (arith, is) in
+    ap (λ (i : ℕ). up parents i t) same
+up_further parents zero (suc k) m t is = absurd (omega (arith, is))
+up_further parents (suc n) (suc k) m t is = up_further parents n k m (parent_at parents t) (omega (arith, is))
 
 -- Cycles
 

@@ -9,6 +9,7 @@ use Rattle.mf_types.specs.declared.places.Place.{Place}
 use Rattle.mf_types.specs.Ascent.{parent_at, up}
 use Rattle.mf_types.specs.Places.{climbs_to, place_at, ArePlaces, HasDepth, IsAncestor, IsPlace, Leads, Stands}
 use Rattle.mf_types.specs.Related.{descends}
+use Rattle.mf_types.proofs.Ascent.{up_further}
 
 -- A type has one depth below a root, and its ancestors have less
 
@@ -18,7 +19,7 @@ depth_is_one parents root zero (suc e) t a b = absurd (b.1.0 a)
 depth_is_one parents root (suc d) zero t a b = absurd (a.1.0 b)
 depth_is_one parents root (suc d) (suc e) t a b = ap suc (depth_is_one parents root d e (parent_at parents t) a.1.1 b.1.1)
 
-depth_above : (parents : List ℕ) (root d k e t : ℕ) → d ≡ k + e → HasDepth parents root d t → HasDepth parents root e (up parents k t)
+pub depth_above : (parents : List ℕ) (root d k e t : ℕ) → d ≡ k + e → HasDepth parents root d t → HasDepth parents root e (up parents k t)
 depth_above parents root d zero e t is h =
     let same : d ≡ e = omega (arith, is) in
     subst (λ (n : ℕ). HasDepth parents root n t) same h
@@ -28,13 +29,6 @@ depth_above parents root (suc d) (suc k) e t is h = depth_above parents root d k
 not_root : (parents : List ℕ) (root d t : ℕ) → HasDepth parents root d t → 0 < d → t ≢ root
 not_root parents root zero t h some = absurd (omega (arith, some))
 not_root parents root (suc d) t h some = h.1.0
-
-up_further : (parents : List ℕ) (n k m t : ℕ) → n ≡ k + m → up parents n t ≡ up parents m (up parents k t)
-up_further parents n zero m t is =
-    let same : n ≡ m = omega (arith, is) in
-    ap (λ (i : ℕ). up parents i t) same
-up_further parents zero (suc k) m t is = absurd (omega (arith, is))
-up_further parents (suc n) (suc k) m t is = up_further parents n k m (parent_at parents t) (omega (arith, is))
 
 -- Descent by depth below type 0
 

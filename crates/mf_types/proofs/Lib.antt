@@ -16,6 +16,7 @@ pub mod Made
 pub mod Narrow
 pub mod NoCycles
 pub mod ObjectLists
+pub mod OffCycles
 pub mod Order
 pub mod Paired
 pub mod Repetition

@@ -104,6 +104,18 @@ begun parents before t on fresh = by (meets (all_above parents t) before) refl
         let away = fresh round.place round.within in
         let no : ⊥ = cc in absurd no
 
+-- A type that isn't met above itself
+
+no_climb : (parents before : List ℕ) (t : ℕ) → (member t (all_above parents t) ≡ true → ⊥) → IsClimb parents before t (record { steps = 0; returned = false })
+no_climb parents before t never = record { returned = sym (by (member t (all_above parents t)) refl); leads = none_itself parents before t }
+  where
+    by : (a : Bool) → member t (all_above parents t) ≡ a → (a && not (meets (all_above parents t) before)) ≡ false
+    by true e = absurd (never e)
+    by false e = refl
+
+pub climb_spared : (parents before : List ℕ) (t : ℕ) → (IsOnCycle parents t → ⊥) → IsClimb parents before t (record { steps = 0; returned = false })
+climb_spared parents before t off = no_climb parents before t (λ e. off (on_cycle parents t e))
+
 -- The walk up
 
 first_false : (a b : Bool) → (a || b) ≡ false → a ≡ false
@@ -187,11 +199,7 @@ module _ (parents settled : List ℕ) (t n current : ℕ) (walked : IsWalked par
       by (suc steps) some few there = walked.away steps (omega (arith, few, all)) there
 
   pub climb_endless : (before : List ℕ) → length parents ≤ n → IsClimb parents before t (record { steps = 0; returned = false })
-  climb_endless before all = record { returned = sym (by (member t (all_above parents t)) refl); leads = none_itself parents before t }
-    where
-      by : (a : Bool) → member t (all_above parents t) ≡ a → (a && not (meets (all_above parents t) before)) ≡ false
-      by true e = absurd (never_back all e)
-      by false e = refl
+  climb_endless before all = no_climb parents before t (never_back all)
 
 -- Settling the types that were passed
 
@@ -245,11 +253,11 @@ settles_more parents before old new t way settles climb more = record {
     by s (inr same) = ap (λ (u : ℕ). member u new) same ∙ more.itself
 
 pub item_settled : (declared : Declared) (parents old new : List ℕ) (item : Typed) (t : ℕ) (way : Climb) → parents ≡ declared.parents → says_nothing item ≡ false → t ≡ type_number declared.types item
-    → ((before : List ℕ) → Settles parents before old → IsClimb parents before t way) → SettlesMore parents t way.steps old new
+    → ((before : List ℕ) → Settles declared.parents before old → IsClimb declared.parents before t way) → SettlesMore parents t way.steps old new
     → (before : List ℕ) → Settles declared.parents before old → Settles declared.parents (types_before declared before (kept_types (item ∷ []))) new
 item_settled declared parents old new item t way same says number climb more before settles =
-    let own : Settles parents before old = subst (λ (ps : List ℕ). Settles ps before old) (sym same) settles in
-    let later : Settles declared.parents (with_type before t) new = subst (λ (ps : List ℕ). Settles ps (with_type before t) new) same (settles_more parents before old new t way own (climb before own) more) in
+    let own : SettlesMore declared.parents t way.steps old new = subst (λ (ps : List ℕ). SettlesMore ps t way.steps old new) same more in
+    let later : Settles declared.parents (with_type before t) new = settles_more declared.parents before old new t way settles (climb before settles) own in
     subst (λ (b : Bool). Settles declared.parents (types_before declared before (if b then [] else item ∷ [])) new) (sym says)
     (subst (λ (n : ℕ). Settles declared.parents (with_type before n) new) number later)
 

@@ -1,12 +1,14 @@
 ghost use Rattle.std.specs.Prelude.{◌≡◌, ◌≢◌, ◌<◌, ◌≤◌, ◌-◌, IfSome, IsTrue};
 ghost use Rattle.std.specs.Bool.{OnTrue};
-ghost use Rattle.mf_types.specs.Ascent.{up};
+ghost use Rattle.mf_types.specs.Ascent.{parent_at, up, IsOnCycle};
+ghost use Rattle.mf_types.specs.Marks.{AreClosedAbove, LeadsToMark};
 ghost use Rattle.mf_types.specs.Places as spec;
 ghost use Rattle.mf_types.specs.Related as related;
 
 use crate::from_top::from_top;
+use crate::marks::is_marked;
 use crate::number_at::number_at;
-use crate::places::{Place, place_of, places};
+use crate::places::{Place, is_root, place_of, places};
 use crate::spans::{Span, spans};
 use mf_model::{List, descends};
 use std::alloc::Global;
@@ -53,7 +55,12 @@ impl Ancestry {
             Ok(places) => places,
             Err(_) => Vec::new(alloc),
         };
-        let spans = match spans(alloc, parents.as_slice(), order.as_slice(), places.as_slice()) {
+        let spans = match spans(
+            alloc,
+            parents.as_slice(),
+            order.as_slice(),
+            places.as_slice(),
+        ) {
             Ok(spans) => spans,
             Err(_) => Vec::new(alloc),
         };
@@ -77,7 +84,9 @@ impl Ancestry {
     }
 
     /// The number of a type's parent.
-    pub(crate) fn parent(&self, number: usize) -> usize {
+    pub(crate) fn parent(&self, number: usize) -> usize
+        ensures { result ≡ parent_at self.now number }
+    {
         number_at(self.as_slice(), number)
     }
 
@@ -91,11 +100,43 @@ impl Ancestry {
         types.iter().all(|own| self.is_below_top(*own))
     }
 
-    fn is_below_top(&self, own: usize) -> bool {
+    /// Whether the way up from a type is known to lead to type 0.
+    pub(crate) fn is_below_top(&self, own: usize) -> bool {
         match self.place(own) {
             Some(place) => place.root == 0,
             None => false,
         }
+    }
+
+    /// Whether a type is the root of a tree.
+    pub(crate) fn is_root(&self, own: usize) -> bool {
+        is_root(self.places.as_slice(), own)
+    }
+
+    /// Whether a type is known to be on no cycle: the way up from it leads to a marked type, and
+    /// it is not marked itself.
+    #[tactic(auto, using(crate::proofs::OffCycles::on_no_cycle))]
+    pub(crate) fn is_on_no_cycle(&self, marks: &[bool], own: usize) -> bool
+        requires { AreClosedAbove self.now marks.now }
+        ensures { OnTrue result (IsOnCycle self.now own → ⊥) }
+    {
+        !is_marked(marks, own) && self.leads_to_mark(marks, own)
+    }
+
+    // Whether the root above a type is marked, or that above the parent of type 0.
+    fn leads_to_mark(&self, marks: &[bool], own: usize) -> bool
+        ensures { OnTrue result (LeadsToMark self.now marks.now own) }
+    {
+        let Some(place) = self.place(own) else {
+            return false;
+        };
+        if is_marked(marks, place.root) {
+            return true;
+        }
+        let Some(above) = self.place(self.parent(place.root)) else {
+            return false;
+        };
+        is_marked(marks, above.root)
     }
 
     /// Whether one of two types is the other, or descends from it.
@@ -106,9 +147,7 @@ impl Ancestry {
             (Some(up), Some(down)) => up || down,
             (Some(true), None) => true,
             (None, Some(true)) => true,
-            _ => {
-                descends(self.as_slice(), own, other) || descends(self.as_slice(), other, own)
-            }
+            _ => { descends(self.as_slice(), own, other) || descends(self.as_slice(), other, own) }
         }
     }
 
@@ -153,7 +192,7 @@ impl Ancestry {
         requires root { from.root ≢ 0 }
         ensures { OnTrue result (IsTrue (related.descends self.now own other)) }
     {
-        let last = number_at(self.as_slice(), from.root);
+        let last = self.parent(from.root);
         let Some(around) = self.place(last) else {
             return false;
         };
@@ -187,7 +226,7 @@ impl Ancestry {
             Some(jump) if depth <= jump.depth => jump,
             _ => Ancestor {
                 root: from.root,
-                number: number_at(self.as_slice(), from.number),
+                number: self.parent(from.number),
                 depth: from.depth - 1,
             },
         }

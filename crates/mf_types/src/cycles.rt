@@ -3,9 +3,12 @@ ghost use Rattle.mf_model.specs.Objects.{member};
 ghost use Rattle.mf_types.specs.Ascent.{Settles, SettlesMore, IsClimb};
 ghost use Rattle.mf_types.specs.Cycles as spec;
 ghost use Rattle.mf_types.specs.Faults.{after};
+ghost use Rattle.mf_types.specs.Marks.{AreClosedAbove};
 ghost use Rattle.mf_types.specs.Names as names;
 ghost use Rattle.mf_types.specs.Tables.{declared_of};
 
+use crate::ancestry::Ancestry;
+use crate::cycle_marks::cycle_marks;
 use crate::kept::says_nothing;
 use crate::least::{Fault, FaultKind, at_word};
 use crate::number_at::number_at;
@@ -31,9 +34,10 @@ pub(crate) fn cycles(
     ensures { IfOk result
         (λ fault. fault ≡ after best (spec.cycle_faults (declared_of tables.now) items.now)) }
 {
+    let marks = cycle_marks(alloc, &tables.parents);
     let mut settled = IndexSet::new(alloc);
     for item in items {
-        best = cycle_step(best, tables, &mut settled, item)?;
+        best = cycle_step(best, tables, marks.as_slice(), &mut settled, item)?;
     }
     Ok(best)
 }
@@ -42,9 +46,11 @@ pub(crate) fn cycles(
 fn cycle_step(
     best: Option<Fault>,
     tables: &Tables,
+    marks: &[bool],
     settled: &mut IndexSet<usize>,
     item: &Typed,
 ) -> Result<Option<Fault>, AllocError>
+    requires { AreClosedAbove tables.now.parents marks.now }
     ensures faults { IfOk result (λ fault. (before : List ℕ) → Settles tables.now.parents before settled.old.keys
         → fault ≡ after best (spec.cycles_from (declared_of tables.now) before (names.kept_types (item.now ∷ [])))) }
     ensures settled { OnOk result ((before : List ℕ) → Settles tables.now.parents before settled.old.keys
@@ -53,10 +59,9 @@ fn cycle_step(
     if says_nothing(item) {
         return Ok(best);
     }
-    let parents = tables.parents.as_slice();
     let number = type_number(tables, item);
-    let way = go_up(parents, settled, number);
-    settle(parents, settled, number, way.steps)?;
+    let way = way_up(&tables.parents, marks, settled, number);
+    settle(tables.parents.as_slice(), settled, number, way.steps)?;
     if way.returned {
         return Ok(at_word(best, FaultKind::TypeCycle, FileKind::DomainFile, &item.word));
     }
@@ -70,6 +75,20 @@ fn type_number(tables: &Tables, item: &Typed) -> usize
         Some(number) => number,
         None => 0,
     }
+}
+
+// The way up from a type, which isn't gone where marks say that the type is on no cycle.
+fn way_up(ancestry: &Ancestry, marks: &[bool], settled: &IndexSet<usize>, from: usize) -> Climb
+    requires { AreClosedAbove ancestry.now marks.now }
+    ensures { (before : List ℕ) → Settles ancestry.now before settled.now.keys → IsClimb ancestry.now before from result }
+{
+    if ancestry.is_on_no_cycle(marks, from) {
+        return Climb {
+            steps: 0,
+            returned: false,
+        };
+    }
+    go_up(ancestry.as_slice(), settled, from)
 }
 
 // Goes up from a type to the top, to a settled type or back to it.

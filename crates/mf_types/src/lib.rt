@@ -8,6 +8,7 @@ mod building;
 mod changed;
 mod checking;
 mod conditions;
+mod cycle_marks;
 mod cycles;
 mod decimals;
 mod declarations;

@@ -9,7 +9,8 @@ use std::alloc::Global;
 /// Marks some types and all above them, in a table with the number of each type's parent. `None`
 /// where there is no memory for the marks, or where a number is of no type.
 pub(crate) fn mark_above(alloc: Global, parents: &[usize], types: &[usize]) -> Option<Vec<bool>>
-    ensures { IfSome result (λ marks. spec.Marks parents.now types.now marks.items) }
+    ensures marked { IfSome result (λ marks. spec.Marks parents.now types.now marks.items) }
+    ensures closed { IfSome result (λ marks. spec.AreClosed parents.now marks.items) }
 {
     let mut marks = vec![in alloc; false; parents.len()].ok()?;
     for own in types {
@@ -48,7 +49,8 @@ pub(crate) fn is_some_marked(marks: &[bool], types: &[usize]) -> bool
     types.iter().any(|own| is_marked(marks, *own))
 }
 
-fn is_marked(marks: &[bool], number: usize) -> bool
+/// Whether a type is marked.
+pub(crate) fn is_marked(marks: &[bool], number: usize) -> bool
     ensures { result ≡ spec.is_marked marks.now number }
 {
     match marks.get(number) {

@@ -126,3 +126,11 @@ pub(crate) fn place_of(places: &[Option<Place>], number: usize) -> Option<Place>
         None => None,
     }
 }
+
+/// Whether a type is the root of a tree.
+pub(crate) fn is_root(places: &[Option<Place>], number: usize) -> bool {
+    match place_of(places, number) {
+        Some(place) => place.depth == 0,
+        None => false,
+    }
+}

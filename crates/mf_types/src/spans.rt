@@ -1,5 +1,5 @@
 use crate::number_at::number_at;
-use crate::places::{Place, place_of};
+use crate::places::{Place, is_root};
 use std::alloc::{AllocError, Global};
 
 /// The numbers of a type and of those below it, where each type is numbered before those below
@@ -69,13 +69,6 @@ fn sizes(
         }
     }
     Ok(sizes)
-}
-
-fn is_root(places: &[Option<Place>], own: usize) -> bool {
-    match place_of(places, own) {
-        Some(place) => place.depth == 0,
-        None => false,
-    }
 }
 
 // Takes the next numbers of the parent, and says which is the first.
