@@ -8,9 +8,6 @@ use crate::relation::are_related as are_lists_related;
 use crate::type_row::TypeRow;
 use std::alloc::Global;
 
-// So many pairs of types are looked at one by one.
-const MOST_PAIRS: usize = 1024;
-
 /// Whether some type of the one row is equal to, above or below some type of the other.
 ///
 /// Two related types are looked for by spans first, and checked. Only where none are found, the
@@ -73,14 +70,11 @@ fn find_among_few(
     types: &[usize],
     others: &[usize],
 ) -> Option<(usize, usize)> {
-    if types.len().saturating_mul(others.len()) > MOST_PAIRS {
-        return None;
-    }
     for (at, own) in types.iter().enumerate() {
         let own = ancestry.span(*own)?;
         for (other_at, other) in others.iter().enumerate() {
             let other = ancestry.span(*other)?;
-            if own.holds(other) || other.holds(own) {
+            if own.is_related(other) {
                 return Some((at, other_at));
             }
         }

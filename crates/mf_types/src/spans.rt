@@ -12,8 +12,13 @@ pub(crate) struct Span {
 }
 
 impl Span {
-    /// Whether the type of another span is this one's or stands below it.
-    pub(crate) fn holds(self, other: Span) -> bool {
+    /// Whether one of the two types is the other or stands below it.
+    pub(crate) fn is_related(self, other: Span) -> bool {
+        self.holds(other) || other.holds(self)
+    }
+
+    // Whether the type of another span is this one's or stands below it.
+    fn holds(self, other: Span) -> bool {
         self.first <= other.first && other.first < self.behind
     }
 }

@@ -10,9 +10,6 @@ use std::rc::Rc;
 // So many types are worth a guide.
 const MANY_TYPES: usize = 32;
 
-// A guide has two bits for each type of the table, at most so many times two for each of the row.
-const MOST_BITS: usize = 320;
-
 /// The declared types of an item, which contracts see as the list of their numbers. The items of
 /// a group share one.
 #[derive(Debug, Drop)]
@@ -83,7 +80,7 @@ fn guide_to(
     ancestry: &Ancestry,
     types: &[usize],
 ) -> Result<Option<Rc<Guide>>, AllocError> {
-    if types.len() < MANY_TYPES || types.len() < ancestry.as_slice().len() / MOST_BITS {
+    if types.len() < MANY_TYPES {
         return Ok(None);
     }
     Ok(Some(Rc::new(alloc, Guide::new(alloc, ancestry, types)?)?))
