@@ -4,7 +4,7 @@ use crate::spans::Span;
 use std::alloc::{AllocError, Global};
 
 // A guide has two bits for each type of the table, at most so many times two for each of the list.
-const MOST_BITS: usize = 320;
+const MOST_BITS: usize = 160;
 
 /// What finds a related type among many in few steps. No clause says that it finds one: what it
 /// finds is to be checked.

@@ -8,7 +8,7 @@ use std::marker::Model;
 use std::rc::Rc;
 
 // So many types are worth a guide.
-const MANY_TYPES: usize = 32;
+const MANY_TYPES: usize = 8;
 
 /// The declared types of an item, which contracts see as the list of their numbers. The items of
 /// a group share one.
