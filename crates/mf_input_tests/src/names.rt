@@ -50,6 +50,10 @@ W (:types t u) (:constants k - u) (:predicates (p ?x - t)) (:action a :precondit
 W (:types t u) (:predicates (p ?x - t)) (:action a :parameters (?y - u) :effect (p @?y))
 W (:types t u) (:constants k - u) (:functions (f ?x - t)) (:action a :effect (increase (f @k) 1))
 W (:types t u) (:predicates (p ?x - t)) (:action a :parameters (?x - t) :precondition (exists (?x - u) (p @?x)))
+W (:types a b c d e f g h i j k l m n o p q r) (:constants z - (either a b c d e f g h i)) (:predicates (p ?x - (either j k l m n o p q r))) (:action a :precondition (p @z))
+W (:constants k - b) (:predicates (p ?x - e)) (:action a :precondition (p @k)) (:types b - c c - b e)
+Y (:constants k - b) (:predicates (p ?x - c)) (:action a :precondition (p k)) (:types @b - c c - b e)
+Y (:constants k - t) (:predicates (p ?x - c)) (:action a :precondition (p k)) (:types t - b @b - c c - b)
 N (:action a :precondition (< @4611686018427387905 1))
 N (:functions (f)) (:action a :effect (assign (f) @0.1234567890123456789))
 L (:functions (x) (y)) (:action a :precondition (> @(* (x) (y)) 1) :effect (and (increase (x) 1) (increase (y) 1)))
@@ -84,6 +88,11 @@ const BARE_PROBLEM: &[u8] = b"(define (problem p) (:domain d) (:goal ()))";
 const DOMAIN: &[u8] =
     b"(define (domain d) (:types t u) (:constants k - t) (:predicates (p ?x - t) (q))
  (:functions (f ?x - t) (g)) (:action a :effect (increase (g) 1)))";
+
+/// An argument and its parameter have nine types each, of which the last alone are related.
+const LONG_LISTS: &[u8] =
+    b"(define (domain d) (:types i - r a b c d e f g h j k l m n o p q r) (:constants z - (either a b c d e f g h i))
+ (:predicates (p ?x - (either j k l m n o p q r))) (:action a :precondition (p z)))";
 
 fn letter(kind: RefusalKind) -> u8 {
     match kind {
@@ -192,5 +201,6 @@ fn files_without_faults_are_accepted(rt: HostRuntime) {
     let metric =
         b"(define (problem p) (:domain d) (:goal ()) (:init (= (g) 1) (= (g) 1.0)) (:metric minimize (* (g) (g))))";
     assert!(rt; is_accepted(alloc, constant_factor, BARE_PROBLEM));
+    assert!(rt; is_accepted(alloc, LONG_LISTS, BARE_PROBLEM));
     assert!(rt; is_accepted(alloc, DOMAIN, metric));
 }

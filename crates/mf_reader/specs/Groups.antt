@@ -14,11 +14,11 @@ use Rattle.mf_reader.specs.Typed.{dash_from, group_from}
 
 -- the groups that are read, and what follows them
 abbrev pub from_groups : Listed → Groups → List Seen → Said (List Typed)
-from_groups listed groups ss = behind groups.done (group_from listed groups.open ss)
+from_groups listed groups ss = behind groups.done (group_from listed groups.pending ss)
 
 -- the same, where a `-` was read last
 abbrev pub from_dash : Listed → Groups → Span → List Seen → Said (List Typed)
-from_dash listed groups dash ss = behind groups.done (dash_from listed groups.open dash ss)
+from_dash listed groups dash ss = behind groups.done (dash_from listed groups.pending dash ss)
 
 -- a call reads on: the groups and what it hands back give all that was to be read
 abbrev pub GoesOn : Listed → Groups → Said (List Typed) → Result (Bor (List Tree)) FormFault → Type 0

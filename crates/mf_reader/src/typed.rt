@@ -127,7 +127,7 @@ fn item_types(alloc: Global, listed: Listed, tree: &Tree) -> Result<List<Word>, 
 #[derive(Drop)]
 struct Groups {
     done: TypedList,
-    open: List<Word>,
+    pending: List<Word>,
 }
 
 /// Gives the words of the group that is begun their types.
@@ -137,10 +137,10 @@ fn close_group(
     types: &SharedList<Word>,
 ) -> Result<(), AllocError>
     ensures done { OnOk result
-        (groups.new.done ≡ groups.old.done ++ typed_as types.now groups.old.open) }
-    ensures begun { OnOk result (groups.new.open ≡ []) }
+        (groups.new.done ≡ groups.old.done ++ typed_as types.now groups.old.pending) }
+    ensures begun { OnOk result (groups.new.pending ≡ []) }
 {
-    let words = replace(&mut groups.open, List::new(alloc));
+    let words = replace(&mut groups.pending, List::new(alloc));
     let done = replace(&mut groups.done, TypedList::new(alloc));
     groups.done = done.with_group(types, words)?;
     Ok(())
@@ -161,7 +161,7 @@ fn end_group<'a>(
     let [tree, rest @ ..] = behind else {
         return Err(FormFault::BadForm { span: dash });
     };
-    if groups.open.is_empty() {
+    if groups.pending.is_empty() {
         return Err(FormFault::BadForm { span: dash });
     }
     let types = item_types(alloc, listed, tree)?;
@@ -186,7 +186,7 @@ fn read_item<'a>(
         return end_group(alloc, listed, groups, span_of(tree), behind);
     }
     let word = item(alloc, listed, tree)?;
-    groups.open.push(word)?;
+    groups.pending.push(word)?;
     Ok(behind)
 }
 
@@ -200,15 +200,15 @@ pub(crate) fn typed_list(
 {
     let mut groups = Groups {
         done: TypedList::new(alloc),
-        open: List::new(alloc),
+        pending: List::new(alloc),
     };
     let mut items = items;
     while let [item, behind @ ..] = items {
         items = read_item(alloc, listed, &mut groups, item, behind)?;
     }
-    let Groups { done, open } = groups;
+    let Groups { done, pending } = groups;
     let untyped = SharedList::from_list(List::new(alloc))?;
-    Ok(done.with_group(&untyped, open)?)
+    Ok(done.with_group(&untyped, pending)?)
 }
 
 /// Typed variables in brackets.
