@@ -7,6 +7,7 @@ pub mod Divisors
 pub mod Operations
 pub mod Monotone
 pub mod OrderLaws
+pub mod ReadNumbers
 pub mod Reduced
 pub mod Signed
 pub mod Texts

@@ -4,7 +4,7 @@ ghost use Rattle.std.proofs.Common.{rules};
 ghost use Rattle.std.specs.Cmp.Rules.{comparing, hashing};
 ghost use Rattle.std.specs.Hash as fed;
 ghost use Rattle.std.specs.Ordering.{on, eq_of_both, int_eq};
-ghost use Rattle.std.specs.Prelude.{◌≡◌, ◌++◌, nat_eq};
+ghost use Rattle.std.specs.Prelude.{◌≡◌, ◌<◌, ◌≤◌, ◌^◌, ◌++◌, nat_eq, unsigned_abs};
 
 use crate::arithmetic::turned;
 use crate::lowest::{lowest, whole_fraction};
@@ -53,6 +53,23 @@ impl Frac {
             Ok(quotient) => Ok(quotient),
             Err(Wide) => Err(DivFault::Wide),
         }
+    }
+
+    /// The numerator in lowest terms, which has the sign: at most 2^62 in size.
+    pub fn numerator(self) -> i64
+        ensures value { result ≡ self.num }
+        ensures size { unsigned_abs result ≤ 2 ^ 62 }
+    {
+        self.numerator
+    }
+
+    /// The denominator in lowest terms, from 1 to 2^62.
+    pub fn denominator(self) -> u64
+        ensures value { result ≡ self.den }
+        ensures positive { 0 < result }
+        ensures size { result ≤ 2 ^ 62 }
+    {
+        self.denominator
     }
 }
 

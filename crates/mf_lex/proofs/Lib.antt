@@ -11,3 +11,4 @@ pub mod Growing
 pub mod Whole
 pub mod Places
 pub mod Folded
+pub mod KindedTrees

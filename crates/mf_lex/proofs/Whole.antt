@@ -26,11 +26,11 @@ use Rattle.mf_lex.proofs.Unique.{unique}
 
 -- ---- both parts of a list
 
-all_left : {X : Type 0} (P : X → Type 0) (xs ys : List X) → All P (xs ++ ys) → All P xs
+pub all_left : {X : Type 0} (P : X → Type 0) (xs ys : List X) → All P (xs ++ ys) → All P xs
 all_left P xs ys h =
     λ k d lt. subst P (get_or_append_left xs ys d k lt) (h k d (let e = length-append xs ys in omega arith))
 
-all_right : {X : Type 0} (P : X → Type 0) (xs ys : List X) → All P (xs ++ ys) → All P ys
+pub all_right : {X : Type 0} (P : X → Type 0) (xs ys : List X) → All P (xs ++ ys) → All P ys
 all_right P xs ys h =
     λ k d lt. subst P (get_or-append-add xs ys k d) (h (length xs + k) d (let e = length-append xs ys in omega arith))
 

@@ -4,3 +4,7 @@ pub mod Examples
 pub mod PlacedTrees
 pub mod TypedItems
 pub mod Numbers
+pub mod Orders
+pub mod Lists
+pub mod SortedLists
+pub mod TaskExamples

@@ -1,6 +1,6 @@
 -- Applying an instance: its firing effects, when it is applicable, and the next state
 -- (PDDL 2.1, section 3 of Fox and Long). All effects read the old state.
-use Rattle.std.specs.Prelude.{ℕ, ◌+◌, pos, Bool, true, false, ◌&&◌, ◌||◌, not, if◌then◌else◌, nat_eq, List, [], ◌∷◌, ◌++◌, map, filter, length, Option, Some, None, slice_get, is_some}
+use Rattle.std.specs.Prelude.{ℕ, ◌+◌, pos, Bool, true, false, ◌&&◌, ◌||◌, not, if◌then◌else◌, nat_eq, nat_lt, List, [], ◌∷◌, ◌++◌, map, filter, length, Option, Some, None, slice_get, is_some}
 use Rattle.std.specs.List.{fold, flat_map, list_all}
 use Rattle.mf_fraction.specs.Exact.{Number, whole, is_same}
 use Rattle.mf_model.specs.declared.task.Op.{Op}
@@ -15,7 +15,7 @@ use Rattle.mf_model.specs.declared.state.Instance.{Instance}
 use Rattle.mf_model.specs.declared.state.PlainState.{PlainState}
 use Rattle.mf_model.specs.Meaning.{holds_in, value_of, plus, minus, times, over}
 use Rattle.mf_model.specs.Objects.{bindings, kinds_of}
-use Rattle.mf_model.specs.States.{with_atom, without_atom, with_value, value_at, same_numbers, look_of}
+use Rattle.mf_model.specs.States.{numbers_before, with_atom, without_atom, with_value, value_at, same_numbers, look_of}
 use Rattle.mf_model.specs.Views.{Look, objects_of}
 
 -- one change that a firing effect makes; the value of a numeric one is its right side in the old state
@@ -139,6 +139,10 @@ is_applicable task state instance =
 
 abbrev pub next_state : TypedTask → PlainState → Instance → PlainState
 next_state task state instance = changed_state state (changes_of task state instance)
+
+-- instances are ordered by action, then by argument list
+abbrev pub instance_before : Instance → Instance → Bool
+instance_before a b = nat_lt a.action b.action || (nat_eq a.action b.action && numbers_before a.objects b.objects)
 
 -- the instances of the actions from number n on: by action, then by argument list
 abbrev pub instances_from : List (List ℕ) → ℕ → List Action → List Instance

@@ -4,6 +4,7 @@ use Rattle.std.specs.List.{fold, list_any}
 use Rattle.std.specs.Cmp.Lexicographic.{pointwise}
 use Rattle.mf_fraction.specs.Exact.{Number}
 use Rattle.mf_model.specs.declared.task.Atom.{Atom}
+use Rattle.mf_model.specs.declared.task.Cell.{Cell}
 use Rattle.mf_model.specs.declared.task.Valued.{Valued}
 use Rattle.mf_model.specs.declared.task.TypedTask.{TypedTask}
 use Rattle.mf_model.specs.declared.state.PlainState.{PlainState}
@@ -43,8 +44,11 @@ abbrev pub same_cell : Valued → Valued → Bool
 same_cell v w = is_cell v.cell.function v.cell.objects w
 
 -- terms are ordered by function, then by objects
+abbrev pub term_before : Cell → Cell → Bool
+term_before c d = nat_lt c.function d.function || (nat_eq c.function d.function && numbers_before c.objects d.objects)
+
 abbrev pub cell_before : Valued → Valued → Bool
-cell_before v w = nat_lt v.cell.function w.cell.function || (nat_eq v.cell.function w.cell.function && numbers_before v.cell.objects w.cell.objects)
+cell_before v w = term_before v.cell w.cell
 
 -- a sorted list of values with this one, in the place of an older value of its term
 abbrev pub with_value : List Valued → Valued → List Valued

@@ -5,6 +5,7 @@ mod copies;
 mod descent;
 mod form;
 mod list;
+mod order;
 mod shared_list;
 mod short_text;
 mod state;

@@ -1,7 +1,12 @@
-ghost use Rattle.std.specs.Prelude.{◌≡◌, [], ◌∷◌, ◌++◌, ◌↔◌, ◌<◌, ◌≤◌, IsTrue, length, insert, slice_get, IfOk, OnOk, OnErr, OnSome, MatchOption};
+ghost use Rattle.mf_model.specs.Lists.{with_items};
+ghost use Rattle.std.specs.Borrow.{Array, Lends, sem};
+ghost use Rattle.std.specs.List.Retain.{DiffersFromLast, IsFiltered};
+ghost use Rattle.std.specs.List.Sorted.{IsPermutation, IsSorted};
 ghost use Rattle.std.specs.Option.{option_copied};
+ghost use Rattle.std.specs.Prelude.{◌≡◌, [], ◌∷◌, ◌++◌, ◌↔◌, ◌<◌, ◌≤◌, IsTrue, length, insert, slice_get, slice_set, IfOk, OnOk, OnErr, OnSome, MatchOption};
 
 use std::alloc::{AllocError, Global};
+use std::cmp::Ordering;
 use std::hash::{Hash, Hasher};
 use std::marker::Model;
 
@@ -23,6 +28,8 @@ impl<T> Model for List<T> {
 }
 
 impl<T> List<T> {
+    ghost use Rattle.mf_model.specs.contracts.list.List.{the_row};
+
     pub fn new(alloc: Global) -> List<T>
         ensures { result ≡ [] }
     {
@@ -53,6 +60,14 @@ impl<T> List<T> {
         ensures { result.now ≡ self.now }
     {
         self.items.as_slice()
+    }
+
+    /// The items, to be changed or moved in place.
+    pub fn as_mut_slice(&mut self) -> &mut [T]
+        ensures* writes_back { sem 𝓛 (Lends (the_row T.row) (Array T.row 0) self.entry result (with_items self.old)) }
+        ensures value { result.now ≡ self.old }
+    {
+        self.items.as_mut_slice()
     }
 
     pub fn len(&self) -> usize
@@ -107,6 +122,14 @@ impl<T: Drop> List<T> {
         Ok(())
     }
 
+    /// Puts the item at place `at`, in place of what stood there.
+    pub fn set(&mut self, at: usize, item: T)
+        requires { at < length self.old }
+        ensures { self.new ≡ slice_set self.old at item }
+    {
+        self.items[at] = item;
+    }
+
     /// Moves the items of `more` to the end.
     pub fn append(&mut self, more: List<T>) -> Result<(), AllocError>
         ensures ok { OnOk result (self.new ≡ self.old ++ more) }
@@ -141,6 +164,25 @@ impl<T: Copy> List<T> {
     }
 }
 
+impl<T: Ord> List<T> {
+    /// Sorts the items, which takes no memory.
+    pub fn sort(&mut self)
+        ensures permutation { IsPermutation self.old self.new }
+        ensures sorted { IsSorted T.cmp self.new }
+    {
+        self.items.sort_unstable();
+    }
+}
+
+impl<T: PartialEq + Drop> List<T> {
+    /// Drops each item that is the same as the one before it.
+    pub fn dedup(&mut self)
+        ensures { IsFiltered (DiffersFromLast T.eq) [] self.old self.new }
+    {
+        self.items.dedup();
+    }
+}
+
 impl<T: PartialEq> PartialEq for List<T> {
     ghost use Rattle.std.specs.Cmp.Lexicographic.{pointwise, lists_per};
 
@@ -157,6 +199,35 @@ impl<T: Eq> Eq for List<T> {
     ghost use Rattle.std.specs.Cmp.Lexicographic.{lists_equiv};
 
     ghost laws = { lists_equiv T.Eq.laws };
+}
+
+impl<T: PartialOrd> PartialOrd for List<T> {
+    ghost use Rattle.std.specs.Cmp.Lexicographic.{slice_partial_cmp, lists_po};
+
+    ghost partial_cmp = { slice_partial_cmp T.partial_cmp };
+
+    ghost laws = { lists_po T.PartialOrd.laws };
+
+    fn partial_cmp(&self, other: &List<T>) -> Option<Ordering> {
+        self.as_slice().partial_cmp(&other.as_slice())
+    }
+}
+
+/// The lexicographic order.
+impl<T: Ord> Ord for List<T> {
+    ghost use Rattle.std.specs.Cmp.Lexicographic.{slice_cmp, lists_total, lists_agrees, lists_ties};
+
+    ghost cmp = { slice_cmp T.cmp };
+
+    ghost total = { lists_total T.total };
+
+    ghost matches_partial_cmp = { lists_agrees T.matches_partial_cmp };
+
+    ghost matches_eq = { lists_ties T.cmp T.matches_eq };
+
+    fn cmp(&self, other: &List<T>) -> Ordering {
+        self.as_slice().cmp(&other.as_slice())
+    }
 }
 
 impl<T: Hash> Hash for List<T> {

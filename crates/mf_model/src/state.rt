@@ -7,8 +7,9 @@ pub struct PlainState {
     pub values: List<Valued>,
 }
 
-/// An action with an argument for each of its parameters.
-#[derive(Debug, Drop, PartialEq, Eq, Hash)]
+/// An action with an argument for each of its parameters. Instances are ordered by action, then by
+/// arguments.
+#[derive(Debug, Drop, PartialEq, Eq, PartialOrd, Ord, Hash)]
 pub struct Instance {
     pub action: u16,
     pub objects: List<u16>,

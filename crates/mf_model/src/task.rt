@@ -154,15 +154,16 @@ pub struct Action {
     pub effect: Effect,
 }
 
-/// A ground atom: a predicate with its objects.
-#[derive(Debug, Drop, PartialEq, Eq, Hash)]
+/// A ground atom: a predicate with its objects. Atoms are ordered by predicate, then by objects.
+#[derive(Debug, Drop, PartialEq, Eq, PartialOrd, Ord, Hash)]
 pub struct Atom {
     pub predicate: u16,
     pub objects: List<u16>,
 }
 
-/// A ground function term: a function with its objects.
-#[derive(Debug, Drop, PartialEq, Eq, Hash)]
+/// A ground function term: a function with its objects. Terms are ordered by function, then by
+/// objects.
+#[derive(Debug, Drop, PartialEq, Eq, PartialOrd, Ord, Hash)]
 pub struct Cell {
     pub function: u16,
     pub objects: List<u16>,

@@ -7,21 +7,56 @@ use std::test::Fail;
 
 #[test]
 fn lists_grow(rt: HostRuntime) -> Result<(), Fail> {
-    let alloc = rt.alloc();
-    let mut list = List::from_slice(alloc, &[1u16, 2])?;
+    let mut list = List::from_slice(rt.alloc(), &[1u16, 2])?;
     list.push(5)?;
     list.extend(&[6])?;
     list.insert(2, 4)?;
-    list.append(List::from_slice(alloc, &[7])?)?;
-    assert_eq!(rt; list.as_slice(), [1u16, 2, 4, 5, 6, 7].as_slice());
-    assert_eq!(rt; list.get(2).copied(), Some(4));
-    assert_eq!(rt; list.copy(alloc)?, list);
-    assert_eq!(rt; list.pop(), Some(7));
-    assert_eq!(rt; list.copy(alloc)?.into_vec().len(), 5);
-    list.clear();
-    assert!(rt; list.is_empty());
-    let empty: List<u16> = List::new(alloc);
-    assert!(rt; empty.is_empty());
+    let is_grown = has_items(&list, &[1, 2, 4, 5, 6]);
+    assert!(rt; is_grown);
+    Ok(())
+}
+
+#[test]
+fn lists_are_joined(rt: HostRuntime) -> Result<(), Fail> {
+    let mut list = List::from_slice(rt.alloc(), &[1u16])?;
+    list.append(List::from_slice(rt.alloc(), &[7])?)?;
+    let copy = list.copy(rt.alloc())?;
+    let is_joined = has_items(&copy, &[1, 7]);
+    assert!(rt; is_joined);
+    Ok(())
+}
+
+// Whether these are the items of the list.
+fn has_items(list: &List<u16>, items: &[u16]) -> bool {
+    list.as_slice() == items
+}
+
+#[test]
+fn lists_change_in_place(rt: HostRuntime) -> Result<(), Fail> {
+    let mut list = List::from_slice(rt.alloc(), &[3u16, 1, 2])?;
+    list.set(2, 9);
+    list.as_mut_slice().swap(0, 1);
+    let is_changed = has_items(&list, &[1, 3, 9]);
+    assert!(rt; is_changed);
+    Ok(())
+}
+
+#[test]
+fn lists_are_sorted(rt: HostRuntime) -> Result<(), Fail> {
+    let mut list = List::from_slice(rt.alloc(), &[3u16, 1, 1])?;
+    list.sort();
+    list.dedup();
+    let is_sorted = has_items(&list, &[1, 3]);
+    assert!(rt; is_sorted);
+    Ok(())
+}
+
+#[test]
+fn lists_are_ordered(rt: HostRuntime) -> Result<(), Fail> {
+    let shorter = List::from_slice(rt.alloc(), &[1u16, 2])?;
+    let longer = List::from_slice(rt.alloc(), &[1u16, 2, 0])?;
+    let is_less = shorter < longer;
+    assert!(rt; is_less);
     Ok(())
 }
 
