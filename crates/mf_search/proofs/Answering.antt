@@ -1,39 +1,26 @@
 -- What the answers of legal histories say: a plan leads to a goal, and no plan means that nothing does.
-use Rattle.std.proofs.Common.{◌≡◌, ℕ, zero, suc, ◌<◌, ◌⊎◌, ◌++◌, Bool, true, false, cond, List, [], ◌∷◌, Option, Some, None, Contains, length, refl, sym, ap, ◌∙◌, inl, inr, subst, arith}
+use Rattle.std.proofs.Common.{◌≡◌, ℕ, ◌<◌, ◌⊎◌, Bool, true, false, cond, List, Some, Contains, length, refl, sym, ap, ◌∙◌, inl, inr, subst, arith}
 use Rattle.mf_search.specs.declared.entry.Entry.{Entry}
 use Rattle.mf_search.specs.declared.status.Status.{Status}
 use Rattle.mf_search.specs.declared.status.Status.TheVariants.{Running, Plan, NoPlan, Budget, Width, Halted}
-use Rattle.mf_search.specs.Space.{Child, Space, children_of}
-use Rattle.mf_search.specs.World.{Opened, Going, World, WasOpened, at, MayTake, May, Legal, world}
+use Rattle.mf_search.specs.Space.{Space, children_of}
+use Rattle.mf_search.specs.World.{Going, World, WasOpened, at, IsOpen, MayTake, May, Legal, world}
 use Rattle.mf_search.specs.declared.entry.Entry.TheVariants.{Take, Done, Wide}
 use Rattle.mf_search.specs.Greedy.{Expanded}
-use Rattle.mf_search.specs.Answers.{AllIdle, Answers, Ended, IsStatus, Walk, IsPlanFrom, LeadsToGoal, InfiniteIsDead, IsClosed, with_step, trace, plan_to}
+use Rattle.mf_search.specs.Answers.{AllIdle, Answers, Ended, IsStatus, IsPlanFrom, LeadsToGoal, InfiniteIsDead, IsClosed, plan_to}
 use Rattle.std.proofs.lemmas.Bool.{true≢false, false≢true}
 use Rattle.std.proofs.lemmas.Option.{none-some}
-use Rattle.mf_search.proofs.Sound.{IsDone, IsStart, MadeByDone, Sound, legal_sound}
+use Rattle.mf_search.proofs.Sound.{IsDone, Sound, legal_sound}
+use Rattle.mf_search.specs.Reaching.{LeadsToGoalBy, Covers}
+use Rattle.mf_search.proofs.Walking.{trace_walks, closed_has_no_goal, ListStep, walk_along, covers_walks}
 use Rattle.mf_search.proofs.Rebuilding.{within_itself, done_expanded}
-
-walk_push : {S : Type 0} (sp : Space S) (x : S) (instances : List ℕ) (y : S) (c : Child S) → Walk sp x instances y → Contains (children_of (sp.grow y)) c → Walk sp x (instances ++ c.instance ∷ []) c.state
-walk_push {S} sp x [] y c e h = (c, subst (λ z. Contains (children_of (sp.grow z)) c) (sym e) h, refl, refl)
-walk_push sp x (n ∷ instances) y c w h = (w.0, w.1, w.2, walk_push sp w.0.state instances y c w.3 h)
-
--- The trace to an opened state leads to it from the start.
-trace_walks : {S : Type 0} (sp : Space S) (w : World S) (fuel i : ℕ) → Sound sp w → i < fuel → i < length w.opened → Walk sp sp.start (trace sp w.opened fuel i) (at sp w.opened i).state
-trace_walks sp w zero i s low h = absurd (omega arith)
-trace_walks {S} sp w (suc fuel) i s low h = go (s.made i h) (λ p below inside. trace_walks sp w fuel p s below inside)
-  where
-    go : IsStart sp w.opened i ⊎ MadeByDone sp w i → ((p : ℕ) → p < fuel → p < length w.opened → Walk sp sp.start (trace sp w.opened fuel p) (at sp w.opened p).state) → Walk sp sp.start (with_step (trace sp w.opened fuel) (at sp w.opened i).maker) (at sp w.opened i).state
-    go (inl start) ih = rw start.maker_is (sym start.state_is)
-    go (inr made) ih =
-        let a = made.lower in
-        rw (made.entry.maker_is, ← made.entry.state_is) (walk_push sp sp.start (trace sp w.opened fuel made.parent) (at sp w.opened made.parent).state made.entry.child (ih made.parent (omega arith) (omega arith)) made.entry.stands)
 
 pub plan_is_right : {S : Type 0} (sp : Space S) (budget workers : ℕ) (entries : List Entry) (i : ℕ) → Legal sp budget workers entries → Answers budget (world sp entries) (Plan i) → IsPlanFrom sp sp.start (plan_to sp (world sp entries).opened i)
 plan_is_right {S} sp budget workers entries i legal e =
     let s = legal_sound sp budget workers entries legal in
     let goal = s.goal i e in
     let low = s.in_range i goal.0 in
-    ((at sp (world sp entries).opened i).state, trace_walks sp (world sp entries) (length (world sp entries).opened) i s low low, s.valued i low ∙ ap (λ v. Some v) goal.1)
+    ((at sp (world sp entries).opened i).state, trace_walks sp (world sp entries) i s low, s.valued i low ∙ ap (λ v. Some v) goal.1)
 
 -- Where the answer is no plan each opened state is done.
 no_plan_done : {S : Type 0} (sp : Space S) (budget : ℕ) (w : World S) (i : ℕ) → Sound sp w → Answers budget w NoPlan → i < length w.opened → IsDone sp w i
@@ -49,24 +36,13 @@ no_plan_closes {S} sp budget w s answer = record {
 pub no_plan_is_closed : {S : Type 0} (sp : Space S) (budget workers : ℕ) (entries : List Entry) → Legal sp budget workers entries → Answers budget (world sp entries) NoPlan → IsClosed sp (world sp entries).opened
 no_plan_is_closed sp budget workers entries legal answer = no_plan_closes sp budget (world sp entries) (legal_sound sp budget workers entries legal) answer
 
--- From a state among closed ones no walk leads to a goal.
-closed_walk : {S : Type 0} (sp : Space S) (os : List (Opened S)) (x : S) (instances : List ℕ) (y : S) → IsClosed sp os → InfiniteIsDead sp → WasOpened sp os x → Walk sp x instances y → sp.value y ≡ Some 0 → ⊥
-closed_walk {S} sp os x [] y closed dead k e goal = (closed.expanded x k).no_goal (ap sp.value e ∙ goal)
-closed_walk {S} sp os x (n ∷ instances) y closed dead k w goal = go (sp.value w.0.state) refl (λ h. closed_walk sp os w.0.state instances y closed dead h w.3 goal)
-  where
-    go : (v : Option ℕ) → sp.value w.0.state ≡ v → (WasOpened sp os w.0.state → ⊥) → ⊥
-    go None e ih = dead w.0.state e (instances, (y, w.3, goal))
-    go (Some v) e ih = ih (closed.onward x w.0.state v k (w.0, w.1, refl) e)
+-- No steps that the space covers lead to a goal where the answer is no plan.
+pub no_plan_by_steps : {S : Type 0} (sp : Space S) (budget workers : ℕ) (entries : List Entry) (Steps : S → ℕ → S → Type 0) (Goal : S → Type 0) → Legal sp budget workers entries → Answers budget (world sp entries) NoPlan → Covers sp Steps Goal → LeadsToGoalBy Steps Goal sp.start → ⊥
+no_plan_by_steps sp budget workers entries Steps Goal legal answer covers plan = closed_has_no_goal sp (world sp entries).opened Steps Goal (no_plan_is_closed sp budget workers entries legal answer) covers plan
 
 pub no_plan_is_right : {S : Type 0} (sp : Space S) (budget workers : ℕ) (entries : List Entry) → Legal sp budget workers entries → Answers budget (world sp entries) NoPlan → InfiniteIsDead sp → LeadsToGoal sp sp.start → ⊥
-no_plan_is_right {S} sp budget workers entries legal answer dead plan = go (sp.value sp.start) refl
-  where
-    closed : IsClosed sp (world sp entries).opened
-    closed = no_plan_is_closed sp budget workers entries legal answer
-
-    go : (v : Option ℕ) → sp.value sp.start ≡ v → ⊥
-    go None e = dead sp.start e plan
-    go (Some v) e = closed_walk sp (world sp entries).opened sp.start plan.0 plan.1.0 closed dead (closed.start v e) plan.1.1 plan.1.2
+no_plan_is_right {S} sp budget workers entries legal answer dead plan =
+    no_plan_by_steps sp budget workers entries (ListStep sp) (λ y. sp.value y ≡ Some 0) legal answer (covers_walks sp dead) (plan.0, (plan.1.0, walk_along sp sp.start plan.0 plan.1.0 plan.1.1, plan.1.2))
 
 -- A history has one answer at most.
 pub one_answer : {S : Type 0} (budget : ℕ) (w : World S) (a b : Status) → Answers budget w a → Answers budget w b → a ≡ b
@@ -122,6 +98,23 @@ ended_stops {S} sp budget workers w e ended may = go ended.0 ended.1
     go Budget h = idle_stops sp budget workers w e h.1 (λ worker i m. let a = m.in_budget in let b = h.2 in omega arith) may
     go Running h = h
     go Halted h = h
+
+-- While something is in expansion, or open within the budget, a search that goes on has no answer.
+pub busy_runs : {S : Type 0} (budget : ℕ) (w : World S) (worker i : ℕ) → w.ending ≡ Going → w.busy worker ≡ Some i → (a : Status) → Answers budget w a → ⊥
+busy_runs budget w worker i going held (Plan j) h = absurd (cc)
+busy_runs budget w worker i going held (Width j n) h = absurd (cc)
+busy_runs budget w worker i going held NoPlan h = none-some i (sym (h.1 worker) ∙ held)
+busy_runs budget w worker i going held Budget h = none-some i (sym (h.1 worker) ∙ held)
+busy_runs budget w worker i going held Running h = h
+busy_runs budget w worker i going held Halted h = h
+
+pub open_runs : {S : Type 0} (budget : ℕ) (w : World S) (i : ℕ) → w.ending ≡ Going → IsOpen w i → length w.taken < budget → (a : Status) → Answers budget w a → ⊥
+open_runs budget w i going left low (Plan j) h = absurd (cc)
+open_runs budget w i going left low (Width j n) h = absurd (cc)
+open_runs budget w i going left low NoPlan h = left.1 (h.2 i left.0)
+open_runs budget w i going left low Budget h = let e = h.2 in absurd (omega arith)
+open_runs budget w i going left low Running h = h
+open_runs budget w i going left low Halted h = h
 
 status_answer : {S : Type 0} (budget : ℕ) (w : World S) (halted : Bool) (a : Status) → IsStatus budget w halted a → Answers budget w a ⊎ ((a ≡ cond halted Halted Running) × (Ended budget w → ⊥))
 status_answer budget w true Running h = absurd (true≢false h.0)

@@ -1,15 +1,19 @@
 -- A small fork, computed: two ways to a goal, of which a run of one thread goes the other one first.
 --     s -> q -> r -> goal by r        s -> p -> t -> u -> goal by u
 -- A state's value is how many goal atoms it lacks: 3 at s, q and p, 2 at t, 1 at r and u.
-use Rattle.std.proofs.Common.{◌≡◌, ◌↔◌, ℕ, get_or, ◌≤◌, Bool, true, false, eqb, List, [], ◌∷◌, Option, Some, None, refl, sym, ap, ◌∙◌, arith}
+use Rattle.std.proofs.Common.{◌≡◌, ◌↔◌, ℕ, zero, suc, get_or, ◌<◌, ◌≤◌, ◌⊎◌, Bool, true, false, eqb, List, [], ◌∷◌, Option, Some, None, Contains, inl, inr, subst, refl, sym, ap, ◌∙◌, arith}
 use Rattle.std.proofs.lemmas.Bool.{eqb-true, eq-eqb}
 use Rattle.mf_search.specs.declared.entry.Entry.{Entry}
 use Rattle.mf_search.specs.declared.entry.Entry.TheVariants.{Take, Done}
 use Rattle.mf_search.specs.declared.maker.Maker.TheVariants.{Start, Step}
 use Rattle.mf_search.specs.Space.{Child, Grown, Listed, Space}
-use Rattle.mf_search.specs.World.{Going, AtGoal, May, Legal, world}
+use Rattle.mf_search.specs.World.{Going, AtGoal, May, Legal, at, world}
 use Rattle.mf_search.specs.Rebuilt.{rebuilt, rebuilt_run}
 use Rattle.mf_search.specs.Answers.{plan_to}
+use Rattle.mf_search.specs.Reaching.{GoesOn, OnwardWalk}
+use Rattle.mf_search.specs.Keys.{KeyFields, key_of, FieldsAtMost, OpenIn, HoldsOpen}
+use Rattle.mf_search.specs.Columns.{held_by}
+use Rattle.mf_search.proofs.Members.{not_in_nil, in_cons, in_first, in_later}
 use Rattle.mf_search.proofs.Checking.{legal_from}
 
 data Place : Type 0 where
@@ -129,3 +133,63 @@ alone_ends = refl
 
 plan_of_alone : plan_to fork (world fork alone).opened 4 ≡ 0 ∷ 2 ∷ 5 ∷ []
 plan_of_alone = refl
+
+-- The trace to u leads through states from which the search goes on: s, p and t.
+goes_on_from : (x : Place) (v : ℕ) → value x ≡ Some (suc v) → GoesOn fork x
+goes_on_from S v e = record { finite = (3, refl); expanded = record { no_goal = λ h. cc; listed = tt } }
+goes_on_from Q v e = record { finite = (3, refl); expanded = record { no_goal = λ h. cc; listed = tt } }
+goes_on_from P v e = record { finite = (3, refl); expanded = record { no_goal = λ h. cc; listed = tt } }
+goes_on_from T v e = record { finite = (2, refl); expanded = record { no_goal = λ h. cc; listed = tt } }
+goes_on_from R v e = record { finite = (1, refl); expanded = record { no_goal = λ h. cc; listed = tt } }
+goes_on_from U v e = record { finite = (1, refl); expanded = record { no_goal = λ h. cc; listed = tt } }
+goes_on_from GoalR v e = absurd (cc)
+goes_on_from GoalU v e = absurd (cc)
+
+way_to_last : OnwardWalk fork S (1 ∷ 3 ∷ 4 ∷ []) U
+way_to_last = (goes_on_from S 2 refl, (to 1 P, in_later (to 0 Q) (to 1 P ∷ []) (to 1 P) (in_first (to 1 P) []), refl, (goes_on_from P 2 refl, (to 3 T, in_first (to 3 T) [], refl, (goes_on_from T 1 refl, (to 4 U, in_first (to 4 U) [], refl, refl))))))
+
+abbrev first_four : List ℕ
+first_four = 0 ∷ 1 ∷ 2 ∷ 3 ∷ []
+
+abbrev four : ℕ
+four = 4
+
+-- After seven entries r alone is open, with the key of value 1, plain, number 4.
+open_then : HoldsOpen fork (world fork seven).opened (world fork seven).taken (λ (k : KeyFields). k) (record { value = 1; plain = true; state = 4 } ∷ [])
+open_then = record { only = λ key h. one key (in_cons (record { value = 1; plain = true; state = 4 }) [] key h); every = λ i o. place i o.0 o.1 }
+  where
+    IsKey : KeyFields → Type 0
+    IsKey key = OpenIn (world fork seven).opened (world fork seven).taken key.state × (key ≡ key_of (at fork (world fork seven).opened key.state) key.state)
+
+    out : Contains (world fork seven).taken 4 → ⊥
+    out h = go h.0 h.1 h.2
+      where
+        go : (k : ℕ) → k < 4 → get_or first_four k 4 ≡ four → ⊥
+        go zero low e = cc
+        go (suc zero) low e = cc
+        go (suc (suc zero)) low e = cc
+        go (suc (suc (suc zero))) low e = cc
+        go (suc (suc (suc (suc k)))) low e = absurd (omega arith)
+
+    one : (key : KeyFields) → (record { value = 1; plain = true; state = 4 } ≡ key) ⊎ Contains [] key → IsKey key
+    one key (inl e) = subst IsKey e ((omega arith, out), refl)
+    one key (inr h) = absurd (not_in_nil key h)
+
+    place : (i : ℕ) → i < 5 → (Contains (world fork seven).taken i → ⊥) → (key : KeyFields) × Contains (record { value = 1; plain = true; state = 4 } ∷ []) key × (key ≡ key_of (at fork (world fork seven).opened i) i)
+    place zero low left = absurd (left (0, omega arith, refl))
+    place (suc zero) low left = absurd (left (1, omega arith, refl))
+    place (suc (suc zero)) low left = absurd (left (2, omega arith, refl))
+    place (suc (suc (suc zero))) low left = absurd (left (3, omega arith, refl))
+    place (suc (suc (suc (suc zero)))) low left = (record { value = 1; plain = true; state = 4 }, in_first (record { value = 1; plain = true; state = 4 }) [], refl)
+    place (suc (suc (suc (suc (suc i))))) low left = absurd (omega arith)
+
+-- A marked state comes before a plain one of its value, and after one of less value.
+marked_first : FieldsAtMost (record { value = 2; plain = false; state = 9 }) (record { value = 2; plain = true; state = 5 })
+marked_first = inr (inl (refl, refl, refl))
+
+lesser_first : FieldsAtMost (record { value = 1; plain = true; state = 7 }) (record { value = 2; plain = false; state = 9 })
+lesser_first = inl (omega arith)
+
+-- What two workers have in expansion then, as a list.
+held_then : (held_by (None ∷ Some 3 ∷ []) 0 ≡ (world fork seven).busy 0) × (held_by (None ∷ Some 3 ∷ []) 1 ≡ (world fork seven).busy 1) × (held_by (None ∷ Some 3 ∷ []) 2 ≡ (world fork seven).busy 2) × (held_by (None ∷ Some 3 ∷ []) 3 ≡ (world fork seven).busy 3)
+held_then = (refl, refl, refl, refl)

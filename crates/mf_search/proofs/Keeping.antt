@@ -1,14 +1,14 @@
 -- Opened states kept as columns: what they say of each state, and how they change.
-use Rattle.std.proofs.Common.{◌≡◌, ◌↔◌, ℕ, ◌+◌, ◌<◌, ◌≤◌, ◌⊎◌, ◌++◌, Bool, true, false, List, [], ◌∷◌, Option, Some, None, Contains, length, get_or, set, map, refl, sym, ap, ◌∙◌, inl, inr, ⊎_elim, subst, arith, length-set, get_or-set_same, get_or-set_other}
+use Rattle.std.proofs.Common.{◌≡◌, ◌↔◌, ℕ, ◌+◌, ◌<◌, ◌≤◌, ◌⊎◌, ◌++◌, Bool, true, false, List, [], ◌∷◌, Option, Some, None, Contains, length, get_or, set, refl, sym, ap, ◌∙◌, inl, inr, ⊎_elim, subst, arith, length-set, get_or-set_same, get_or-set_other}
 use Rattle.std.proofs.lemmas.Bool.{false≢true, cases_lt, cases_eq}
-use Rattle.std.proofs.lemmas.List.{length_push, get_or_push, get_or_append_left, map_push, get_or-map, get_or_default}
-use Rattle.std.proofs.lemmas.List.Elements.{Contains-append_left, Contains-push, Contains-push_cases, Contains-get_or}
+use Rattle.std.proofs.lemmas.List.{length_push, get_or_push, get_or_append_left, map_push, get_or-map}
+use Rattle.std.proofs.lemmas.List.Elements.{Contains-append_left, Contains-push, Contains-push_cases}
 use Rattle.mf_search.specs.declared.maker.Maker.{Maker}
 use Rattle.mf_search.specs.declared.maker.Maker.TheVariants.{Start}
 use Rattle.mf_search.specs.Space.{Space}
 use Rattle.mf_search.specs.World.{Opened, World, WasOpened, at, IsOpen, KeyAtMost}
 use Rattle.mf_search.specs.Columns.{Columns, IsLeastOpen}
-use Rattle.mf_search.proofs.Members.{in_map, from_map}
+use Rattle.mf_search.proofs.Listing.{opened_in_states}
 use Rattle.mf_search.proofs.KeyOrder.{key_refl, key_trans}
 
 pub state_at : {S : Type 0} (sp : Space S) (os : List (Opened S)) (taken : List ℕ) (states : List S) (values : List ℕ) (makers : List Maker) (flags : List Bool) (i : ℕ) (d : S) → Columns os taken states values makers flags → i < length os → (at sp os i).state ≡ get_or states i d
@@ -26,14 +26,7 @@ open_at w states values makers flags i c low e = (low, λ h. false≢true (sym e
 
 -- A state was opened exactly where it stands in the column of states.
 pub opened_in : {S : Type 0} (sp : Space S) (os : List (Opened S)) (taken : List ℕ) (states : List S) (values : List ℕ) (makers : List Maker) (flags : List Bool) (x : S) → Columns os taken states values makers flags → WasOpened sp os x ↔ Contains states x
-opened_in {S} sp os taken states values makers flags x c = (λ w. rw c.states_are (subst (λ t. Contains (map (λ (o : Opened S). o.state) os) t) w.2 (in_map (λ (o : Opened S). o.state) os (at sp os w.0) (Contains-get_or os w.0 (record { state = sp.start; value = 0; maker = Start }) w.1))), λ h. back (subst (λ xs. Contains xs x) c.states_are h))
-  where
-    back : Contains (map (λ (o : Opened S). o.state) os) x → WasOpened sp os x
-    back h = let o = from_map (λ (o : Opened S). o.state) os x h in
-        let k = o.1 in (k.0, k.1, ap (λ (t : Opened S). t.state) (place os k.0 o.0 k.1 k.2) ∙ o.2)
-      where
-        place : (xs : List (Opened S)) (n : ℕ) (y : Opened S) → n < length xs → get_or xs n y ≡ y → at sp xs n ≡ y
-        place xs n y l e = get_or_default xs n (record { state = sp.start; value = 0; maker = Start }) y l ∙ e
+opened_in sp os taken states values makers flags x c = rw c.states_are (opened_in_states sp os x)
 
 pub columns_first : {S : Type 0} → Columns {S = S} [] [] [] [] [] []
 columns_first = record { states_are = refl; values_are = refl; makers_are = refl; flags_len = refl; flags_are = λ i h. absurd (omega arith) }

@@ -8,9 +8,14 @@ pub mod Rebuilding
 pub mod Completing
 pub mod Taking
 pub mod OneStep
+pub mod Walking
 pub mod Answering
 pub mod OneWorker
 pub mod Fuel
+pub mod Listing
+pub mod OpenKeys
 pub mod Keeping
+pub mod Counting
 pub mod Checking
 mod Example
+mod ExampleWide

@@ -1,13 +1,13 @@
 -- Histories and worlds one entry at a time, and opened states one child at a time.
-use Rattle.std.proofs.Common.{◌≡◌, ◌≢◌, ℕ, ◌≤◌, ◌++◌, Bool, true, false, eqb, List, [], ◌∷◌, Some, None, length, refl, sym, ap, ◌∙◌, arith, append_assoc, append-nil}
+use Rattle.std.proofs.Common.{◌≡◌, ◌≢◌, ℕ, ◌≤◌, ◌++◌, Bool, true, false, eqb, List, [], ◌∷◌, Some, None, length, refl, sym, ap, ◌∙◌, subst, arith, append_assoc, append-nil}
 use Rattle.std.proofs.lemmas.List.{length_push}
 use Rattle.std.proofs.lemmas.Bool.{eq-eqb, ne_eqb, false_from_ne_true}
 use Rattle.mf_search.specs.declared.entry.Entry.{Entry}
 use Rattle.mf_search.specs.declared.entry.Entry.TheVariants.{Take, Done, Wide}
 use Rattle.mf_search.specs.declared.maker.Maker.TheVariants.{Step}
-use Rattle.mf_search.specs.Space.{Child, Space}
+use Rattle.mf_search.specs.Space.{Child, Space, children_of}
 use Rattle.mf_search.specs.World.{Opened, AtGoal, World, WasOpened, at, known, pushed, open_child, open_all, put, took, next, after, May, LegalFrom, Legal, begin, world, takes}
-use Rattle.mf_search.proofs.Opening.{known_opened, opened_known}
+use Rattle.mf_search.proofs.Opening.{Extends, extends_refl, extends_trans, opens_all, known_opened, opened_known}
 
 -- The world after one list of entries and then another.
 pub after_append : {S : Type 0} (sp : Space S) (w : World S) (front rest : List Entry) → after sp w (front ++ rest) ≡ after sp (after sp w front) rest
@@ -47,6 +47,30 @@ next_take {S} sp w worker i e = ap (λ b. took b w worker i) (ne_eqb (at sp w.op
 pub took_taken : {S : Type 0} (b : Bool) (w : World S) (worker i : ℕ) → (took b w worker i).taken ≡ w.taken ++ i ∷ []
 took_taken true w worker i = refl
 took_taken false w worker i = refl
+
+-- A take opens nothing.
+took_opened : {S : Type 0} (b : Bool) (w : World S) (worker i : ℕ) → (took b w worker i).opened ≡ w.opened
+took_opened true w worker i = refl
+took_opened false w worker i = refl
+
+pub take_opens_nothing : {S : Type 0} (sp : Space S) (w : World S) (worker i : ℕ) → (next sp w (Take worker i)).opened ≡ w.opened
+take_opens_nothing sp w worker i = took_opened (eqb (at sp w.opened i).value 0) w worker i
+
+pub take_taken : {S : Type 0} (sp : Space S) (w : World S) (worker i : ℕ) → (next sp w (Take worker i)).taken ≡ w.taken ++ i ∷ []
+take_taken sp w worker i = took_taken (eqb (at sp w.opened i).value 0) w worker i
+
+-- What was opened keeps its number.
+pub next_extends : {S : Type 0} (sp : Space S) (w : World S) (e : Entry) → Extends sp w.opened (next sp w e).opened
+next_extends {S} sp w (Take worker i) = subst (Extends sp w.opened) (sym (take_opens_nothing sp w worker i)) (extends_refl sp w.opened)
+next_extends sp w (Done worker i) = (opens_all sp i (children_of (sp.grow (at sp w.opened i).state)) w.opened).extends
+next_extends sp w (Wide worker i n) = extends_refl sp w.opened
+
+pub after_extends : {S : Type 0} (sp : Space S) (w : World S) (entries : List Entry) → Extends sp w.opened (after sp w entries).opened
+after_extends sp w [] = extends_refl sp w.opened
+after_extends sp w (e ∷ entries) = extends_trans sp w.opened (next sp w e).opened (after sp (next sp w e) entries).opened (next_extends sp w e) (after_extends sp (next sp w e) entries)
+
+pub world_extends : {S : Type 0} (sp : Space S) (front rest : List Entry) → Extends sp (world sp front).opened (world sp (front ++ rest)).opened
+world_extends {S} sp front rest = subst (λ (w : World S). Extends sp (world sp front).opened w.opened) (sym (after_append sp (begin sp) front rest)) (after_extends sp (world sp front) rest)
 
 pub after_taken : {S : Type 0} (sp : Space S) (w : World S) (entries : List Entry) → (after sp w entries).taken ≡ w.taken ++ takes entries
 after_taken sp w [] = sym (append-nil w.taken)

@@ -1,5 +1,5 @@
 -- What opening a successor list does to the opened states, one child at a time.
-use Rattle.std.proofs.Common.{◌≡◌, ℕ, zero, suc, ◌<◌, ◌≤◌, ◌⊎◌, ◌++◌, Bool, true, false, List, [], ◌∷◌, Option, Some, None, Contains, length, refl, sym, ap, ◌∙◌, inl, inr, ⊎_elim, subst, arith, le_refl}
+use Rattle.std.proofs.Common.{◌≡◌, ℕ, zero, suc, ◌<◌, ◌≤◌, ◌⊎◌, ◌++◌, Bool, true, false, List, [], ◌∷◌, Option, Some, None, Contains, length, refl, sym, ap, ◌∙◌, inl, inr, ⊎_elim, subst, arith, le_refl, append-nil, append_assoc}
 use Rattle.std.proofs.lemmas.Bool.{false≢true, or_cases, or_left, or_right, cases_lt}
 use Rattle.std.proofs.lemmas.List.{length_push, get_or_push, get_or_append_left}
 use Rattle.std.proofs.lemmas.Option.{none-some}
@@ -153,3 +153,16 @@ opens_all sp p [] os = record {
   all = λ c v h k. absurd (not_in_nil c h);
 }
 opens_all sp p (c ∷ cs) os = opens_both sp p c cs os (open_child sp p c os) (open_all sp p cs (open_child sp p c os)) (opens_child sp p c os) (opens_all sp p cs (open_child sp p c os))
+
+-- What is opened is pushed.
+pushed_after : {S : Type 0} (seen : Bool) (value : Option ℕ) (p : ℕ) (c : Child S) (os : List (Opened S)) → (more : List (Opened S)) × (pushed seen value p c os ≡ os ++ more)
+pushed_after true value p c os = ([], sym (append-nil os))
+pushed_after false None p c os = ([], sym (append-nil os))
+pushed_after false (Some v) p c os = (record { state = c.state; value = v; maker = Step p c.instance c.helpful } ∷ [], refl)
+
+pub open_after : {S : Type 0} (sp : Space S) (p : ℕ) (cs : List (Child S)) (os : List (Opened S)) → (more : List (Opened S)) × (open_all sp p cs os ≡ os ++ more)
+open_after sp p [] os = ([], sym (append-nil os))
+open_after {S} sp p (c ∷ cs) os =
+    let a = pushed_after (known sp os c.state) (sp.value c.state) p c os in
+    let b = open_after sp p cs (open_child sp p c os) in
+    (a.0 ++ b.0, b.1 ∙ ap (λ (news : List (Opened S)). news ++ b.0) a.1 ∙ append_assoc os a.0 b.0)

@@ -88,7 +88,7 @@ made_grows sp w z i s g h (inr made) = inr (record { parent = made.parent; lower
 pub not_among : (taken : List ℕ) (i : ℕ) → (Contains taken i → ⊥) → (k d : ℕ) → k < length taken → get_or taken k d ≢ i
 not_among taken i new k d h e = new (subst (λ t. Contains taken t) e (Contains-get_or taken k d h))
 
-once_push : (taken : List ℕ) (i : ℕ) → AllDifferent taken → (Contains taken i → ⊥) → AllDifferent (taken ++ i ∷ [])
+pub once_push : (taken : List ℕ) (i : ℕ) → AllDifferent taken → (Contains taken i → ⊥) → AllDifferent (taken ++ i ∷ [])
 once_push taken i once new = all_pairs_push (λ (x : ℕ) (y : ℕ). x ≢ y) taken i once (not_among taken i new)
 
 -- The take of a goal.

@@ -7,6 +7,7 @@ use Rattle.mf_search.specs.declared.status.Status.TheVariants.{Running, Plan, No
 use Rattle.mf_search.specs.Space.{Child, Space, children_of, Leads}
 use Rattle.mf_search.specs.World.{Opened, World, Going, AtGoal, AtWide, WasOpened, IsOpen, at}
 use Rattle.mf_search.specs.Greedy.{Expanded}
+use Rattle.mf_search.specs.Reaching.{IsReached}
 
 -- Nothing is in expansion.
 abbrev pub AllIdle : {S : Type 0} → World S → Type 0
@@ -49,9 +50,9 @@ IsPlanFrom {S} sp x instances = (y : S) × Walk sp x instances y × (sp.value y 
 abbrev pub LeadsToGoal : {S : Type 0} → Space S → S → Type 0
 LeadsToGoal sp x = (instances : List ℕ) × IsPlanFrom sp x instances
 
--- No goal is reached from a state of infinite value.
+-- From a state of infinite value, where the search reaches one, nothing leads to a goal.
 abbrev pub InfiniteIsDead : {S : Type 0} → Space S → Type 0
-InfiniteIsDead {S} sp = (x : S) → sp.value x ≡ None → LeadsToGoal sp x → ⊥
+InfiniteIsDead {S} sp = (x : S) → IsReached sp x → sp.value x ≡ None → LeadsToGoal sp x → ⊥
 
 -- The opened states are closed: the start is one where its value is finite, each of them was expanded and is no goal,
 -- and each state of finite value in one of their successor lists is one.

@@ -1,5 +1,5 @@
--- Opened states kept as columns, one list for each part, and a search of them for the open state of least key.
-use Rattle.std.specs.Prelude.{◌≡◌, ◌↔◌, ℕ, ◌<◌, Bool, true, false, List, Option, Some, None, Contains, length, get_or, map}
+-- Opened states kept as columns, one list for each part, a search of them for the open state of least key, and a list of workers.
+use Rattle.std.specs.Prelude.{◌≡◌, ◌↔◌, ℕ, zero, suc, ◌<◌, Bool, true, false, List, Option, Some, None, Contains, length, get_or, map}
 use Rattle.mf_search.specs.declared.maker.Maker.{Maker}
 use Rattle.mf_search.specs.Space.{Space}
 use Rattle.mf_search.specs.World.{Opened, at, KeyAtMost}
@@ -16,3 +16,8 @@ pub record Columns {S : Type 0} (os : List (Opened S)) (taken : List ℕ) (state
 abbrev pub IsLeastOpen : {S : Type 0} → Space S → List (Opened S) → List ℕ → ℕ → Option ℕ → Type 0
 IsLeastOpen sp os taken n None = (j : ℕ) → j < n → Contains taken j
 IsLeastOpen sp os taken n (Some i) = (i < n) × (Contains taken i → ⊥) × ((j : ℕ) → j < n → (Contains taken j → ⊥) → KeyAtMost (at sp os i) i (at sp os j) j)
+
+-- What each worker has in expansion, from a list in which worker 1 comes first.
+abbrev pub held_by : List (Option ℕ) → ℕ → Option ℕ
+held_by kept zero = None
+held_by kept (suc k) = get_or kept k None

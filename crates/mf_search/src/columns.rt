@@ -1,8 +1,9 @@
-//! Opened states that are kept as columns, one list for each part.
-ghost use Rattle.std.specs.Prelude.{◌≡◌, ◌↔◌, ◌+◌, ◌<◌, ℕ, Bool, true, false, List, [], ◌∷◌, ◌++◌, Contains, Option, Some, None, length, get_or, set};
+//! Opened states that are kept as columns, one list for each part, and workers that are kept as a list.
+ghost use Rattle.std.specs.Prelude.{◌≡◌, ◌↔◌, ◌+◌, ◌-◌, ◌<◌, ◌≤◌, ℕ, Bool, true, false, List, [], ◌∷◌, ◌++◌, Contains, Option, Some, None, length, get_or, set, map};
+ghost use Rattle.mf_search.specs.declared.maker.Maker.TheVariants.{Start};
 ghost use Rattle.mf_search.specs.Space.{Space};
-ghost use Rattle.mf_search.specs.World.{Opened, WasOpened, KeyAtMost, at};
-ghost use Rattle.mf_search.specs.Columns.{Columns, IsLeastOpen};
+ghost use Rattle.mf_search.specs.World.{Opened, WasOpened, KeyAtMost, at, put};
+ghost use Rattle.mf_search.specs.Columns.{Columns, IsLeastOpen, held_by};
 
 use crate::maker::Maker;
 
@@ -23,4 +24,23 @@ pub fn least_is_found<S>()
     ensures first { (sp : Space S) (os : List (Opened S)) (taken : List ℕ) (n : ℕ) → (Contains taken n → ⊥) → IsLeastOpen sp os taken n None → IsLeastOpen sp os taken (n + 1) (Some n) }
     ensures better { (sp : Space S) (os : List (Opened S)) (taken : List ℕ) (n i : ℕ) → (Contains taken n → ⊥) → KeyAtMost (at sp os n) n (at sp os i) i → IsLeastOpen sp os taken n (Some i) → IsLeastOpen sp os taken (n + 1) (Some n) }
     ensures worse { (sp : Space S) (os : List (Opened S)) (taken : List ℕ) (n i : ℕ) → KeyAtMost (at sp os i) i (at sp os n) n → IsLeastOpen sp os taken n (Some i) → IsLeastOpen sp os taken (n + 1) (Some i) }
+{}
+
+/// The lists of the opened states' states, values and makers: what they have at a number, past the end too, is
+/// that of the opened state; a state was opened exactly where it occurs among the states. One more opened state
+/// leaves those before it as they are.
+pub fn parts_are_listed<S>()
+    ensures state { (sp : Space S) (os : List (Opened S)) (i : ℕ) → get_or (map (λ o. o.state) os) i sp.start ≡ (at sp os i).state }
+    ensures value { (sp : Space S) (os : List (Opened S)) (i : ℕ) → get_or (map (λ o. o.value) os) i 0 ≡ (at sp os i).value }
+    ensures maker { (sp : Space S) (os : List (Opened S)) (i : ℕ) → get_or (map (λ o. o.maker) os) i Start ≡ (at sp os i).maker }
+    ensures opened { (sp : Space S) (os : List (Opened S)) (x : S) → WasOpened sp os x ↔ Contains (map (λ o. o.state) os) x }
+    ensures earlier { (sp : Space S) (os : List (Opened S)) (o : Opened S) (i : ℕ) → i < length os → at sp (os ++ o ∷ []) i ≡ at sp os i }
+    ensures last { (sp : Space S) (os : List (Opened S)) (o : Opened S) → at sp (os ++ o ∷ []) (length os) ≡ o }
+{}
+
+/// What workers have in expansion, kept as a list with worker 1 first: a change of one worker is a change of
+/// its place, and where each place is empty nothing is in expansion.
+pub fn workers_are_listed()
+    ensures put { (busy : ℕ → Option ℕ) (kept : List (Option ℕ)) (worker : ℕ) (held : Option ℕ) (v : ℕ) → 1 ≤ worker → worker ≤ length kept → ((u : ℕ) → busy u ≡ held_by kept u) → put busy worker held v ≡ held_by (set kept (worker - 1) held) v }
+    ensures idle { (kept : List (Option ℕ)) (v : ℕ) → ((k : ℕ) → k < length kept → get_or kept k None ≡ None) → held_by kept v ≡ None }
 {}

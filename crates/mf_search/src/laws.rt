@@ -23,8 +23,8 @@ pub fn taken_by_a_greedy_run<S>()
 {}
 
 /// The answers of legal histories are right, and a history has one answer and one status at most: the trace of a plan leads
-/// from the start to a goal; no plan means that nothing does, where nothing leads to a goal from a state of
-/// infinite value. In any case no plan means that the opened states are closed.
+/// from the start to a goal; no plan means that nothing does, where nothing leads to a goal from a reached state
+/// of infinite value. In any case no plan means that the opened states are closed.
 pub fn answers_are_right<S>()
     ensures plan { (sp : Space S) (budget workers : ℕ) (entries : List Entry) (i : ℕ) → Legal sp budget workers entries → Answers budget (world sp entries) (Plan i) → IsPlanFrom sp sp.start (plan_to sp (world sp entries).opened i) }
     ensures no_plan { (sp : Space S) (budget workers : ℕ) (entries : List Entry) → Legal sp budget workers entries → Answers budget (world sp entries) NoPlan → InfiniteIsDead sp → LeadsToGoal sp sp.start → ⊥ }

@@ -1,6 +1,7 @@
 ghost use Rattle.std.specs.Prelude.{◌≡◌};
 ghost use Rattle.mf_search.specs.World.{mark_rank};
 ghost use Rattle.mf_search.specs.Rebuilt.{parent_of};
+ghost use Rattle.mf_search.specs.Keys.{is_plain};
 
 /// What opened a state.
 #[derive(Clone, Copy, Debug, PartialEq, Eq)]
@@ -35,6 +36,16 @@ impl Maker {
         match self {
             Maker::Step { helpful: true, .. } => 0,
             _ => 1,
+        }
+    }
+
+    /// Whether the state is plain, which is to say not marked: no helpful instance led to it.
+    pub fn is_plain(self) -> bool
+        ensures { result ≡ is_plain self }
+    {
+        match self {
+            Maker::Step { helpful, .. } => !helpful,
+            Maker::Start => true,
         }
     }
 }

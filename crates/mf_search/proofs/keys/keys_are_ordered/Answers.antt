@@ -1,3 +1,4 @@
+use Rattle.mf_search.proofs.OpenKeys.{key_fields}
 use Rattle.mf_search.proofs.KeyOrder.{key_refl, key_antisym, key_trans, key_total}
 use Rattle.mf_search.proofs.keys.keys_are_ordered.Goals as goal
 
@@ -12,3 +13,6 @@ returns-clause-through g c a b d i j k h l = key_trans a i b j d k h l
 
 pub returns-clause-either : goal.returns-clause-either
 returns-clause-either g c a b i j = key_total a i b j
+
+pub returns-clause-fields : goal.returns-clause-fields
+returns-clause-fields g c a b i j = key_fields a b i j

@@ -1,9 +1,10 @@
 use Rattle.mf_search.specs.World.{world}
-use Rattle.std.proofs.Common.{ℕ, List, Contains, ◌≤◌, length, ap, sym, subst}
+use Rattle.std.proofs.Common.{◌≡◌, ℕ, List, Contains, ◌≤◌, ◌<◌, length, ap, sym, subst}
 use Rattle.mf_search.specs.Rebuilt.{parent_of}
 use Rattle.mf_search.proofs.Sound.{legal_sound, first_is_start}
 use Rattle.mf_search.proofs.OneStep.{taken_is, legal_in_budget}
 use Rattle.mf_search.proofs.OneWorker.{legal_in_number, all_idle}
+use Rattle.mf_search.proofs.Counting.{more_than_taken, budget_spent}
 use Rattle.mf_search.proofs.Fuel.{legal_parents}
 use Rattle.mf_search.proofs.numbers.numbers_are_sound.Goals as goal
 
@@ -38,3 +39,9 @@ returns-clause-idle g c sp budget workers entries legal idle = all_idle workers 
 
 pub returns-clause-start : goal.returns-clause-start
 returns-clause-start g c sp budget workers entries legal low = let r = first_is_start sp (world sp entries) (legal_sound sp budget workers entries legal) low in (r.state_is, r.maker_is)
+
+pub returns-clause-more_opened : goal.returns-clause-more_opened
+returns-clause-more_opened g c sp budget workers entries i legal left = subst (λ (ts : List ℕ). length ts < length (world sp entries).opened) (taken_is sp entries) (more_than_taken sp (world sp entries) i (legal_sound sp budget workers entries legal) left)
+
+pub returns-clause-spent : goal.returns-clause-spent
+returns-clause-spent g c sp budget workers entries legal answer = (subst (λ (ts : List ℕ). length ts ≡ budget) (taken_is sp entries) answer.2, budget_spent sp budget (world sp entries) (legal_sound sp budget workers entries legal) answer)

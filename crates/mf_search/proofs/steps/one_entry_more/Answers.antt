@@ -1,4 +1,4 @@
-use Rattle.mf_search.proofs.OneStep.{legal_push, legal_last, legal_front, world_push}
+use Rattle.mf_search.proofs.OneStep.{legal_push, legal_last, legal_front, world_push, world_extends}
 use Rattle.mf_search.proofs.Answering.{ended_stops}
 use Rattle.mf_search.proofs.steps.one_entry_more.Goals as goal
 
@@ -13,3 +13,9 @@ returns-clause-front g c sp budget workers front rest legal = legal_front sp bud
 
 pub returns-clause-ended : goal.returns-clause-ended
 returns-clause-ended g c sp budget workers w entry ended may = ended_stops sp budget workers w entry ended may
+
+pub returns-clause-longer : goal.returns-clause-longer
+returns-clause-longer g c sp front rest = (world_extends sp front rest).longer
+
+pub returns-clause-earlier : goal.returns-clause-earlier
+returns-clause-earlier g c sp front rest i low = (world_extends sp front rest).same i low
