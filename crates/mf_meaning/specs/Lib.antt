@@ -1,0 +1,5 @@
+pub mod LiveTests
+pub mod ReachedStates
+pub mod SearchPlans
+pub mod SortedStates
+pub mod StartValues
