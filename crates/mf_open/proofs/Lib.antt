@@ -1,0 +1,9 @@
+pub mod Places
+pub mod Spots
+pub mod Taking
+pub mod Falling
+pub mod Keys
+pub mod Others
+pub mod Grouping
+pub mod Entering
+pub mod Leaving
