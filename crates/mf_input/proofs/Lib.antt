@@ -1,10 +1,9 @@
 pub mod FileLemmas
+pub mod FlatForms
 pub mod NameLemmas
+pub mod NamedForms
 pub mod OneTask
-pub mod RoomConditions
-pub mod RoomEffects
-pub mod RoomTask
-pub mod ValidFiles
+pub mod ResolvedFiles
 pub mod WrittenConditions
 pub mod WrittenEffects
 pub mod WrittenExpressions

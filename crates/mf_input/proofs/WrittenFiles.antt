@@ -1,5 +1,5 @@
 -- A domain and a problem of the grammar are written as it says.
-use Rattle.std.proofs.Common.{◌≡◌, Bool, true, Option, Some, None, List, [], ◌∷◌, inl, inr, ap, sym, ◌∙◌, subst, All}
+use Rattle.std.proofs.Common.{◌≡◌, ℕ, ◌≤◌, Bool, true, Option, Some, None, List, [], ◌∷◌, inl, inr, ap, sym, ◌∙◌, subst, arith, All}
 use Rattle.std.proofs.lemmas.List.Elements.{All-nil, All-cons}
 use Rattle.mf_model.proofs.Choices.{and_true}
 use Rattle.mf_model.specs.declared.token.Span.{Span}
@@ -17,12 +17,16 @@ use Rattle.mf_model.specs.declared.form.RawMetric.{RawMetric}
 use Rattle.mf_model.specs.declared.form.Domain.{Domain}
 use Rattle.mf_model.specs.declared.form.Problem.{Problem}
 use Rattle.mf_model.specs.Forms.{Headed}
+use Rattle.mf_model.specs.Trees.{IsTreeOf}
+use Rattle.mf_lex.proofs.KindedTrees.{tree_kinded}
 use Rattle.mf_reader.specs.GrammarSections.{IsPrecondition, IsOutcome, IsAction, AreActions}
 use Rattle.mf_reader.specs.GrammarFiles.{IsMetric, IsDomain, IsProblem}
-use Rattle.mf_types.specs.Written.{cond_step, is_written_cond, effect_step, is_written_effect, is_written_action, is_written_metric, IsWritten}
+use Rattle.mf_types.specs.Written.{cond_step, is_written_cond, effect_step, is_written_effect, is_written_action, is_written_metric, when_step, when_depth, IsWritten}
 use Rattle.mf_input.proofs.WrittenExpressions.{metric_expr_written}
 use Rattle.mf_input.proofs.WrittenConditions.{cond_written}
 use Rattle.mf_input.proofs.WrittenEffects.{effect_written}
+use Rattle.mf_input.proofs.FlatForms.{effect_flat}
+use Rattle.mf_input.proofs.NamedForms.{files_named}
 
 precondition_written : (span : Span) (raw : RawCond) (part : Option Tree) → IsPrecondition span raw part → is_written_cond raw ≡ true
 precondition_written span raw None h = ap is_written_cond (h ∙ sym (c.rolls-And [] span)) ∙ fold-roll-RawCond Bool cond_step (RawCond-F.And [] span)
@@ -50,9 +54,31 @@ metric_written : (metric : Option RawMetric) (section : Option Headed) → IsMet
 metric_written metric None h = ap is_written_metric h
 metric_written metric (Some headed) h = ap is_written_metric h.1 ∙ metric_expr_written h.0.value h.2.1 h.2.4
 
-pub files_written : (domain_tree problem_tree : Tree) (d : Domain) (p : Problem) → IsDomain d domain_tree → IsProblem p problem_tree → IsWritten d p
-files_written domain_tree problem_tree d p is_domain is_problem = record {
+-- `when` effects
+
+outcome_flat : (span : Span) (raw : RawEffect) (part : Option Tree) → IsOutcome span raw part → when_depth raw ≤ 1
+outcome_flat span raw None h =
+    let none : when_depth raw ≡ 0 = ap when_depth (h ∙ sym (e.rolls-Group [] span)) ∙ fold-roll-RawEffect ℕ when_step (RawEffect-F.Group [] span) in
+    omega (arith, none)
+outcome_flat span raw (Some t) h = effect_flat raw t h
+
+abbrev Flat : RawAction → Type 0
+Flat a = when_depth a.effect ≤ 1
+
+actions_flat : (actions : List RawAction) (ts : List Tree) → AreActions actions ts → All Flat actions
+actions_flat actions [] h = subst (λ v. All Flat v) (sym h) (All-nil Flat)
+actions_flat actions (t ∷ ts) (inl others) = actions_flat actions ts others.1
+actions_flat actions (t ∷ ts) (inr (a, rest, is, action, others)) =
+    subst (λ v. All Flat v) (sym is) (All-cons Flat a rest (outcome_flat action.span a.effect action.effect_part action.effect) (actions_flat rest ts others))
+
+-- both files
+
+pub files_written : (domain problem : List ℕ) (domain_tree problem_tree : Tree) (d : Domain) (p : Problem) → IsTreeOf domain domain_tree → IsTreeOf problem problem_tree → IsDomain d domain_tree → IsProblem p problem_tree →
+    IsWritten d p
+files_written domain problem domain_tree problem_tree d p domain_is problem_is is_domain is_problem = record {
   actions = actions_written d.actions is_domain.sections is_domain.actions;
   goal = cond_written p.goal is_problem.goal_tree is_problem.goal;
   metric = metric_written p.metric is_problem.metric_section is_problem.is_metric;
+  flat = actions_flat d.actions is_domain.sections is_domain.actions;
+  names = files_named domain_tree problem_tree d p (tree_kinded domain domain_tree domain_is) (tree_kinded problem problem_tree problem_is) is_domain is_problem;
 }

@@ -1,4 +1,3 @@
 pub mod Files
 pub mod Kinds
-pub mod Limits
 pub mod Refusals

@@ -1,40 +1,29 @@
 ghost use Rattle.std.specs.Prelude.{◌≡◌, List, ℕ};
-ghost use Rattle.mf_model.specs.Objects.{HaveTopType};
+ghost use Rattle.mf_model.specs.ResolvedTask.{IsResolvedTask};
+ghost use Rattle.mf_model.specs.Trees.{IsTreeOf};
 ghost use Rattle.mf_model.specs.declared.form.Domain.{Domain};
 ghost use Rattle.mf_model.specs.declared.form.Problem.{Problem};
 ghost use Rattle.mf_model.specs.declared.task.TypedTask.{TypedTask};
 ghost use Rattle.mf_model.specs.declared.tree.Tree.{Tree};
 ghost use Rattle.mf_reader.specs.GrammarFiles.{IsDomain, IsProblem};
-ghost use Rattle.mf_types.specs.Valid.{IsValidTask};
 ghost use Rattle.mf_types.specs.Written.{IsWritten};
 ghost use Rattle.mf_input.specs.Files.{IsTaskOfFiles};
-ghost use Rattle.mf_input.specs.Limits.{IsWithinLimits};
 
 /// Two files have one task at most.
 pub fn task_is_unique()
     ensures { (domain problem : List ℕ) (left right : TypedTask) → IsTaskOfFiles domain problem left → IsTaskOfFiles domain problem right → left ≡ right }
 {}
 
-/// The task of two files has at most 65,535 objects and 1,000 actions, at most 32 parameters at each predicate, function
-/// and action, and at most 64 variables are in scope at any place.
-pub fn task_is_within_limits()
-    ensures { (domain problem : List ℕ) (task : TypedTask) → IsTaskOfFiles domain problem task → IsWithinLimits task }
-{}
-
-/// Each object of the task of two files has the type `object`, from which all types descend.
-pub fn objects_have_the_top_type()
-    ensures { (domain problem : List ℕ) (task : TypedTask) → IsTaskOfFiles domain problem task → HaveTopType task }
-{}
-
-/// A domain and a problem of the grammar are written: their sums and products have two parts at least, and only the
-/// metric reads the number of steps.
+/// A domain and a problem of the grammar, read from the trees of two files, are written: their sums and products have two
+/// parts at least, only the metric reads the number of steps, no `when` effect occurs in another, and what they declare has
+/// words of kind Name.
 pub fn forms_are_written()
-    ensures { (domain_tree problem_tree : Tree) (d : Domain) (p : Problem) → IsDomain d domain_tree → IsProblem p problem_tree → IsWritten d p }
+    ensures { (domain problem : List ℕ) (domain_tree problem_tree : Tree) (d : Domain) (p : Problem) → IsTreeOf domain domain_tree → IsTreeOf problem problem_tree → IsDomain d domain_tree → IsProblem p problem_tree → IsWritten d p }
 {}
 
-/// The task of two files is valid: each of its numbers names a type, an object, a predicate, a function or a variable
-/// in scope, each predicate and function has as many terms as it was declared with, and only the metric reads the
-/// number of steps.
-pub fn task_is_valid()
-    ensures { (domain problem : List ℕ) (task : TypedTask) → IsTaskOfFiles domain problem task → IsValidTask task }
+/// The task of two files is a resolved task: each of its numbers names what is declared, it keeps the limits, its objects
+/// have the type `object`, its expressions outside the metric are linear, its numbers fit and are in lowest terms, no `when`
+/// effect occurs in another, and its names are words of kind Name, pairwise different each in its space.
+pub fn task_is_resolved()
+    ensures { (domain problem : List ℕ) (task : TypedTask) → IsTaskOfFiles domain problem task → IsResolvedTask task }
 {}

@@ -6,9 +6,6 @@ mod laws;
 mod read;
 mod refusal;
 
-pub use laws::{
-    forms_are_written, objects_have_the_top_type, task_is_unique, task_is_valid,
-    task_is_within_limits,
-};
+pub use laws::{forms_are_written, task_is_resolved, task_is_unique};
 pub use read::read_task;
 pub use refusal::{InputFault, Refusal, RefusalKind};

@@ -1,4 +1,5 @@
 ghost use Rattle.std.specs.Prelude.{◌≡◌, ◌≤◌, length, IfOk, IfErr};
+ghost use Rattle.mf_model.specs.ResolvedTask.{IsResolvedTask};
 ghost use Rattle.mf_input.specs.Files.{IsTaskOfFiles};
 ghost use Rattle.mf_input.specs.Kinds.{refused_at, file_refusal, name_refusal};
 ghost use Rattle.mf_input.specs.Refusals.{ReadsFiles, ReadsNames, ReadsProblem, IsFirstRefusal, HaveNoTask};
@@ -79,7 +80,7 @@ fn read(alloc: Global, domain: &[u8], problem: &[u8]) -> Result<TypedTask, Input
     }
 }
 
-/// The task of a domain file and a problem file of at most 16,777,216 bytes each.
+/// The task of a domain file and a problem file of at most 16,777,216 bytes each. It is a resolved task.
 ///
 /// # Errors
 ///
@@ -89,6 +90,7 @@ pub fn read_task(alloc: Global, domain: &[u8], problem: &[u8]) -> Result<TypedTa
     requires domain_size { length domain.now ≤ 16777216 }
     requires problem_size { length problem.now ≤ 16777216 }
     ensures task { IfOk result (IsTaskOfFiles domain.now problem.now) }
+    ensures resolved { IfOk result IsResolvedTask }
     ensures refusal { IfErr result (IsFirstRefusal domain.now problem.now) }
     ensures none { IfErr result (HaveNoTask domain.now problem.now) }
 {

@@ -85,6 +85,14 @@ const TYPES: Written = Written {
     after: b"))",
 };
 
+/// `object` does not count, and `b` does, which is a parent alone.
+const TYPES_WITH_A_PARENT: Written = Written {
+    before: b"(define (domain d) (:types object - object a - b ",
+    open: b" ",
+    close: b" ",
+    after: b"))",
+};
+
 const CONSTANTS: Written = Written {
     before: b"(define (domain d) (:constants ",
     open: b" ",
@@ -124,6 +132,7 @@ const OBJECTS: Written = Written {
 fn the_first_name_beyond_each_limit(rt: HostRuntime) {
     let alloc = rt.alloc();
     assert!(rt; ends_domain(alloc, TYPES, 10_001));
+    assert!(rt; ends_domain(alloc, TYPES_WITH_A_PARENT, 9_999));
     assert!(rt; ends_domain(alloc, CONSTANTS, 65_536));
     assert!(rt; ends_domain(alloc, PREDICATES, 10_001));
     assert!(rt; ends_domain(alloc, FUNCTIONS, 10_001));

@@ -5,9 +5,12 @@ use std::alloc::Global;
 
 // A line has a letter for its kind of fault, and behind a blank a text in which `@` stands before the place of the
 // fault that is answered. The letters are T for a second declaration, Y for a cycle of types, U for an unknown name,
-// C for a wrong count, W for a wrong type, M for too many, N for a wide number and L for what is not linear.
+// C for a wrong count, W for a wrong type, M for too many, N for a wide number, L for what is not linear, B for a bad byte and G for a
+// word that is too long.
 
 const DECLARATIONS: &[u8] = b"T (:types a @a)
+G (:types @aaaaaaaaaaaaaaaaaaaaaaaaaaaaaaaaaaaaaaaaaaaaaaaaaaaaaaaaaaaaaaaaaaaaaaaaaaaaaaaaaaaaaaaaaaaaaaaaaaaaaaaaaaaaaaaaaaaaaaaaaaaaaaaaaaaaaaaaaaaaaaaaaaaaaaaaaaaaaaaaaaaaaaaaaaaaaaaaaaaaaaaaaaaaaaaaaaaaaaaaaaaaaaaaaaaaaaaaaaaaaaaaaaaaaaaaaaaaaaaaaaaaaaaaaaaaaaaa\x7f)
+B (:types aaaaaaaaaaaaaaaaaaaaaaaaaaaaaaaaaaaaaaaaaaaaaaaaaaaaaaaaaaaaaaaaaaaaaaaaaaaaaaaaaaaaaaaaaaaaaaaaaaaaaaaaaaaaaaaaaaaaaaaaaaaaaaaaaaaaaaaaaaaaaaaaaaaaaaaaaaaaaaaaaaaaaaaaaaaaaaaaaaaaaaaaaaaaaaaaaaaaaaaaaaaaaaaaaaaaaaaaaaaaaaaaaaaaaaaaaaaaaaaaaaaaaaaaaaaaaaa@\x7f)
 T (:types a - b @a - c)
 T (:constants k @k)
 T (:predicates (p) (@p ?x))
@@ -30,7 +33,8 @@ M (:predicates (p ?a ?b ?c ?d ?e ?f ?g ?h ?i ?j ?k ?l ?m ?n ?o ?p ?q ?r ?s ?t ?u
 M (:functions (f ?p1 ?p2 ?p3 ?p4 ?p5 ?p6 ?p7 ?p8 ?p9 ?p10 ?p11 ?p12 ?p13 ?p14 ?p15 ?p16 ?p17 ?p18 ?p19 ?p20 ?p21 ?p22 ?p23 ?p24 ?p25 ?p26 ?p27 ?p28 ?p29 ?p30 ?p31 ?p32 @?q))
 M (:action a :parameters (?p1 ?p2 ?p3 ?p4 ?p5 ?p6 ?p7 ?p8 ?p9 ?p10 ?p11 ?p12 ?p13 ?p14 ?p15 ?p16 ?p17 ?p18 ?p19 ?p20 ?p21 ?p22 ?p23 ?p24 ?p25 ?p26 ?p27 ?p28 ?p29 ?p30 ?p31 ?p32 @?q))
 M (:action a :precondition (forall (?v1 ?v2 ?v3 ?v4 ?v5 ?v6 ?v7 ?v8 ?v9 ?v10 ?v11 ?v12 ?v13 ?v14 ?v15 ?v16 ?v17 ?v18 ?v19 ?v20 ?v21 ?v22 ?v23 ?v24 ?v25 ?v26 ?v27 ?v28 ?v29 ?v30 ?v31 ?v32 ?v33 ?v34 ?v35 ?v36 ?v37 ?v38 ?v39 ?v40 ?v41 ?v42 ?v43 ?v44 ?v45 ?v46 ?v47 ?v48 ?v49 ?v50 ?v51 ?v52 ?v53 ?v54 ?v55 ?v56 ?v57 ?v58 ?v59 ?v60 ?v61 ?v62 ?v63 ?v64 @?q) ()))
-M (:action a :parameters (?p1 ?p2 ?p3 ?p4 ?p5 ?p6 ?p7 ?p8 ?p9 ?p10 ?p11 ?p12 ?p13 ?p14 ?p15 ?p16 ?p17 ?p18 ?p19 ?p20 ?p21 ?p22 ?p23 ?p24 ?p25 ?p26 ?p27 ?p28 ?p29 ?p30 ?p31 ?p32) :effect (forall (?v1 ?v2 ?v3 ?v4 ?v5 ?v6 ?v7 ?v8 ?v9 ?v10 ?v11 ?v12 ?v13 ?v14 ?v15 ?v16 ?v17 ?v18 ?v19 ?v20 ?v21 ?v22 ?v23 ?v24 ?v25 ?v26 ?v27 ?v28 ?v29 ?v30 ?v31 ?v32 @?q) ()))";
+M (:action a :parameters (?p1 ?p2 ?p3 ?p4 ?p5 ?p6 ?p7 ?p8 ?p9 ?p10 ?p11 ?p12 ?p13 ?p14 ?p15 ?p16 ?p17 ?p18 ?p19 ?p20 ?p21 ?p22 ?p23 ?p24 ?p25 ?p26 ?p27 ?p28 ?p29 ?p30 ?p31 ?p32) :effect (forall (?v1 ?v2 ?v3 ?v4 ?v5 ?v6 ?v7 ?v8 ?v9 ?v10 ?v11 ?v12 ?v13 ?v14 ?v15 ?v16 ?v17 ?v18 ?v19 ?v20 ?v21 ?v22 ?v23 ?v24 ?v25 ?v26 ?v27 ?v28 ?v29 ?v30 ?v31 ?v32 @?q) ()))
+M (:action a :parameters (?v1 ?v2 ?v3 ?v4 ?v5 ?v6 ?v7 ?v8 ?v9 ?v10 ?v11 ?v12 ?v13 ?v14 ?v15 ?v16 ?v17 ?v18 ?v19 ?v20 ?v21 ?v22 ?v23 ?v24 ?v25 ?v26 ?v27 ?v28 ?v29 ?v30 ?v31 ?v32) :effect (forall (?v1 ?v2 ?v3 ?v4 ?v5 ?v6 ?v7 ?v8 ?v9 ?v10 ?v11 ?v12 ?v13 ?v14 ?v15 ?v16 ?v17 ?v18 ?v19 ?v20 ?v21 ?v22 ?v23 ?v24 ?v25 ?v26 ?v27 ?v28 ?v29 ?v30 ?v31 ?v32 @?q) ()))";
 
 const USES: &[u8] = b"U (:action a :precondition (@p))
 U (:predicates (p ?x)) (:action a :precondition (p @?x))
@@ -54,11 +58,20 @@ W (:types a b c d e f g h i j k l m n o p q r) (:constants z - (either a b c d e
 W (:constants k - b) (:predicates (p ?x - e)) (:action a :precondition (p @k)) (:types b - c c - b e)
 Y (:constants k - b) (:predicates (p ?x - c)) (:action a :precondition (p k)) (:types @b - c c - b e)
 Y (:constants k - t) (:predicates (p ?x - c)) (:action a :precondition (p k)) (:types t - b @b - c c - b)
+T (:types t u) (:predicates (p ?x - t)) (:action a :precondition (p ?y) :parameters (?y - t @?y - u))
+W (:types t u) (:predicates (p ?x - t)) (:action a :precondition (p @?y) :parameters (?y - u ?y - t))
+Y (:predicates (p ?a - x)) (:constants c - y) (:action a :precondition (p c)) (:types @x y - object object - x)
+Y (:predicates (p ?a - x)) (:constants c - y) (:action a :precondition (p c)) (:types @object - x x y - object)
+W (:action a :precondition (p @k)) (:types t) (:predicates (p ?x - t)) (:constants k - u)
+W (:action a :precondition (p @k)) (:constants k) (:predicates (p ?x - t))
 N (:action a :precondition (< @4611686018427387905 1))
 N (:functions (f)) (:action a :effect (assign (f) @0.1234567890123456789))
 L (:functions (x) (y)) (:action a :precondition (> @(* (x) (y)) 1) :effect (and (increase (x) 1) (increase (y) 1)))
 L (:functions (x)) (:action a :precondition (> @(/ 1 (x)) 1) :effect (increase (x) 1))
-L (:functions (x)) (:action a :effect @(scale-up (x) (x)))";
+L (:functions (x)) (:action a :effect @(scale-up (x) (x)))
+U (:functions (x)) (:action a :precondition (> (* (x) (@z)) 1) :effect (increase (x) 1))
+U (:action a :precondition (> (/ 1 (@z)) 1))
+L (:functions (x)) (:action a :precondition (> @(* (x) (z)) 1) :effect (and (increase (x) 1) (increase (z) 1)))";
 
 const PROBLEMS: &[u8] = b"T (:goal ()) (:objects @k)
 U (:goal ()) (:objects a - @v)
@@ -77,6 +90,7 @@ U (:goal ()) (:init (= (@h) 1))
 U (:goal ()) (:init (= (f @z) 1))
 C (:goal ()) (:init (= (@g k) 1))
 T (:goal ()) (:init (= (g) 1) (= (g) 1.0) (= (g) @2))
+T (:goal ()) (:init (= (g) 1) (= (g) @4611686018427387905))
 N (:goal ()) (:init (= (g) @4611686018427387905))
 U (:goal ()) (:metric minimize (@h))
 C (:goal ()) (:metric minimize (@g k))
@@ -104,9 +118,9 @@ fn letter(kind: RefusalKind) -> u8 {
         RefusalKind::TooMany => b'M',
         RefusalKind::WideNumber => b'N',
         RefusalKind::NotLinear => b'L',
-        RefusalKind::BadByte
-        | RefusalKind::WordTooLong
-        | RefusalKind::Unbalanced
+        RefusalKind::BadByte => b'B',
+        RefusalKind::WordTooLong => b'G',
+        RefusalKind::Unbalanced
         | RefusalKind::TooDeep
         | RefusalKind::UnknownRequirement
         | RefusalKind::LeftOut
@@ -203,4 +217,8 @@ fn files_without_faults_are_accepted(rt: HostRuntime) {
     assert!(rt; is_accepted(alloc, constant_factor, BARE_PROBLEM));
     assert!(rt; is_accepted(alloc, LONG_LISTS, BARE_PROBLEM));
     assert!(rt; is_accepted(alloc, DOMAIN, metric));
+    let object_in_domain =
+        b"(define (domain d) (:predicates (p ?x)) (:action a :precondition (p k)))";
+    let object = b"(define (problem p) (:domain d) (:objects k) (:goal ()))";
+    assert!(rt; is_accepted(alloc, object_in_domain, object));
 }

@@ -8,7 +8,7 @@ use Rattle.mf_types.specs.declared.ancestry.Ancestor.{Ancestor}
 use Rattle.mf_types.specs.declared.places.Place.{Place}
 use Rattle.mf_types.specs.Ascent.{parent_at, up}
 use Rattle.mf_types.specs.Places.{climbs_to, place_at, ArePlaces, HasDepth, IsAncestor, IsPlace, Leads, Stands}
-use Rattle.mf_types.specs.Related.{descends}
+use Rattle.mf_types.specs.BelowTop.{descends}
 use Rattle.mf_types.proofs.Ascent.{up_further}
 
 -- A type has one depth below a root, and its ancestors have less

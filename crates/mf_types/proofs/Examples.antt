@@ -2,9 +2,13 @@
 use Rattle.std.proofs.Common.{◌≡◌, refl, ℕ, true, false, List, [], ◌∷◌}
 use Rattle.std.specs.Prelude.{codes}
 use Rattle.mf_model.specs.declared.form.FileKind.TheVariants.{DomainFile, ProblemFile}
+use Rattle.mf_model.specs.declared.form.RawCond.{RawCond}
+use Rattle.mf_model.specs.declared.form.RawEffect.TheOpen.{RawEffect-F}
 use Rattle.mf_model.specs.declared.form.RawValue.{RawValue}
 use Rattle.mf_model.specs.declared.form.Typed.{Typed}
 use Rattle.mf_model.specs.declared.form.Word.{Word}
+use Rattle.mf_model.specs.declared.token.Span.{Span}
+use Rattle.mf_model.specs.Tokens.{is_name, is_name_byte}
 use Rattle.mf_types.specs.declared.least.FaultKind.TheVariants.{Twice, TypeCycle}
 use Rattle.mf_types.specs.Cycles.{cycles_from}
 use Rattle.mf_types.specs.Declarations.{item_words, repeats}
@@ -12,6 +16,7 @@ use Rattle.mf_types.specs.Faults.{at_word}
 use Rattle.mf_types.specs.Names.{Declared, kept_types, parents_of, type_names}
 use Rattle.mf_types.specs.Related.{are_related}
 use Rattle.mf_types.specs.StartValues.{differs_at, first_of, same_number}
+use Rattle.mf_types.specs.Written.{when_step}
 
 abbrev word_at : ℕ → List ℕ → Word
 word_at n text = record { text = text; span = record { start = n; end = n } }
@@ -110,3 +115,24 @@ equal_value_accepted = refl
 
 other_value_refused : differs_at (first_of (start 1 a (codes "1") ∷ start 2 b (codes "2") ∷ []) (start 3 a (codes "2"))) (start 3 a (codes "2")) ≡ at_word Twice ProblemFile (word_at 3 (codes "2"))
 other_value_refused = refl
+
+-- Written forms: a `when` in another makes two, and a group has those of its deepest part
+
+nested_when : (condition : RawCond) (span : Span) → when_step (RawEffect-F.When condition 1 span) ≡ 2
+nested_when condition span = refl
+
+deepest_part : (span : Span) → when_step (RawEffect-F.Group (0 ∷ 1 ∷ 0 ∷ []) span) ≡ 1
+deepest_part span = refl
+
+-- a name is in lower case, and begins with a letter
+
+small_name : is_name (codes "pick-up_2") ≡ true
+unfolding is_name_byte
+small_name = refl
+
+great_letter : is_name (codes "pickUp") ≡ false
+unfolding is_name_byte
+great_letter = refl
+
+digit_in_front : is_name (codes "2nd") ≡ false
+digit_in_front = refl

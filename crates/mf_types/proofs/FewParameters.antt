@@ -14,7 +14,7 @@ use Rattle.mf_model.specs.declared.task.TypedTask.{TypedTask}
 use Rattle.mf_types.specs.AllFaults.{faults_of}
 use Rattle.mf_types.specs.DeclarationFaults.{parameter_faults, header_parameter_faults, header_list_faults, action_parameter_faults, action_list_faults, declaration_faults_in}
 use Rattle.mf_types.specs.Declarations.{action_words, header_words, item_words, list_faults, most_actions, most_parameters, most_symbols, repeats}
-use Rattle.mf_types.specs.Limits.{HaveFewParameters}
+use Rattle.mf_model.specs.TaskLimits.{HaveFewParameters}
 use Rattle.mf_types.specs.Names.{Declared, declared_by, firsts, header_text, header_types, item_types}
 use Rattle.mf_types.specs.Sites.{Site}
 use Rattle.mf_types.specs.Tasks.{action_of, paired, symbol_named, IsTaskOf}

@@ -18,6 +18,10 @@ given P (Some x) h = h x refl
 pub anything : {A : Type 0} (o : Option A) → IfGiven (λ _. Unit {0}) o
 anything o = given (λ _. Unit {0}) o (λ _ _. tt)
 
+pub given_weaker : {A : Type 0} (P Q : A → Type 0) → ((x : A) → P x → Q x) → (o : Option A) → IfGiven P o → IfGiven Q o
+given_weaker P Q f None h = tt
+given_weaker P Q f (Some x) h = f x h
+
 pub taken : {A : Type 0} (P : A → Type 0) (o : Option A) (x : A) → o ≡ Some x → IfGiven P o → P x
 taken P None x e h = let no : ⊥ = cc in absurd no
 taken P (Some y) x e h = let same : y ≡ x = cc in subst (λ z. P z) same h

@@ -1,17 +1,24 @@
 pub mod After
+pub mod ApartNames
 pub mod Ascent
+pub mod ConstantFunctions
 pub mod Depths
 pub mod EndZeros
+pub mod EveryChange
+pub mod EverySide
 pub mod Examples
 pub mod Faultless
 pub mod FewNames
 pub mod FewParameters
 pub mod FirstValues
 pub mod Firsts
+pub mod FlatEffects
 pub mod Found
 pub mod Given
 pub mod GroupTypes
 pub mod KeyLemmas
+pub mod LinearExpressions
+pub mod LinearTask
 pub mod Made
 pub mod Narrow
 pub mod NoCycles
@@ -20,9 +27,14 @@ pub mod OffCycles
 pub mod Order
 pub mod Paired
 pub mod Repetition
+pub mod ResolvedTasks
 pub mod Resolving
+pub mod RoomConditions
+pub mod RoomEffects
+pub mod RoomTask
 pub mod Scoped
 pub mod Settled
+pub mod StoredNumbers
 pub mod TaskReadings
 pub mod There
 pub mod ThereConditions
@@ -41,5 +53,7 @@ pub mod Walks
 mod TypeWords
 mod Marked
 mod ByMarks
+mod FirstTypes
+mod PastTop
 mod Settling
 pub mod Hiding

@@ -7,7 +7,7 @@ use Rattle.std.proofs.lemmas.List.Folds.{list_any_more}
 use Rattle.mf_model.specs.Objects.{ancestors, member}
 use Rattle.mf_types.specs.Ascent.{parent_at}
 use Rattle.mf_types.specs.Marks.{is_above, is_marked, AreClosed, Marks, MarksMore}
-use Rattle.mf_types.specs.Related.{descends}
+use Rattle.mf_types.specs.BelowTop.{descends}
 
 -- One more mark
 

@@ -59,3 +59,9 @@ take_paired f zero xs ys = refl
 take_paired f (suc n) [] ys = refl
 take_paired f (suc n) (x ∷ xs) [] = refl
 take_paired f (suc n) (x ∷ xs) (y ∷ ys) = ap (λ rest. f x y ∷ rest) (take_paired f n xs ys)
+
+pub drop_paired : {A B C : Type 0} (f : A → B → C) (n : ℕ) (xs : List A) (ys : List B) → paired f (drop n xs) (drop n ys) ≡ drop n (paired f xs ys)
+drop_paired f zero xs ys = refl
+drop_paired f (suc n) [] ys = refl
+drop_paired f (suc n) (x ∷ xs) [] = to_nothing f (drop n xs)
+drop_paired f (suc n) (x ∷ xs) (y ∷ ys) = drop_paired f n xs ys

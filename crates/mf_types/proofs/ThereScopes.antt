@@ -1,5 +1,5 @@
 -- Where no fault stands in a list of variables, at most 64 are in scope inside it.
-use Rattle.std.proofs.Common.{◌≡◌, ℕ, zero, suc, ◌+◌, ◌-◌, ◌≤◌, Bool, true, false, if◌then◌else◌, nat_le, Option, Some, None, List, [], ◌∷◌, ◌++◌, length, slice_get, refl, sym, subst, ap, ◌∙◌, arith, length-append}
+use Rattle.std.proofs.Common.{◌≡◌, ℕ, zero, suc, ◌+◌, ◌-◌, ◌≤◌, Bool, true, false, if◌then◌else◌, nat_le, Option, Some, None, List, [], ◌∷◌, ◌++◌, length, map, slice_get, refl, sym, subst, ap, ◌∙◌, arith, length-append}
 use Rattle.std.proofs.lemmas.Bool.Decides.{nat_tests}
 use Rattle.std.proofs.lemmas.List.{map-append, length-map}
 use Rattle.mf_model.proofs.Choices.{if_true}
@@ -10,7 +10,7 @@ use Rattle.mf_model.specs.Options.{◌>>=◌}
 use Rattle.mf_model.specs.Resolution.{typed_names}
 use Rattle.mf_types.specs.Quantified as faults
 use Rattle.mf_types.specs.Declarations.{too_many_at, beyond, beyond_behind, item_words}
-use Rattle.mf_types.specs.Scopes.{Scope, variables_of}
+use Rattle.mf_types.specs.Scopes.{Scope, variable_of, variables_of}
 use Rattle.mf_types.specs.Sites.{Site}
 use Rattle.mf_types.specs.Typing.{Binders, inside, within}
 use Rattle.mf_types.proofs.There.{IsThere, never}
@@ -42,8 +42,14 @@ few site n items h e =
 
 -- the names of the variables of a list
 pub names_of : (types : List (List ℕ)) (items : List Typed) → names_in (variables_of types items) ≡ typed_names items
-names_of types [] = refl
-names_of types (item ∷ items) = ap (λ (names : Binders). item.word.text ∷ names) (names_of types items)
+names_of types items = own_names (typed_names items)
+  where
+    own_names : (names : Binders) → names_in (map (variable_of types items) names) ≡ names
+    own_names [] = refl
+    own_names (name ∷ names) = ap (λ (others : Binders). name ∷ others) (own_names names)
+
+pub length_of : (types : List (List ℕ)) (items : List Typed) → length (variables_of types items) ≡ length items
+length_of types items = length-map (typed_names items) (variable_of types items) ∙ length-map items _
 
 pub names_inside : (site : Site) (scope : Scope) (items : List Typed) → names_in (faults.inside site scope items) ≡ names_in scope ++ typed_names items
 names_inside site scope items =
@@ -51,7 +57,7 @@ names_inside site scope items =
 
 pub length_inside : (site : Site) (scope : Scope) (items : List Typed) → length (faults.inside site scope items) ≡ length scope + length items
 length_inside site scope items =
-    length-append scope (variables_of site.declared.types items) ∙ ap (λ (n : ℕ). length scope + n) (length-map items _)
+    length-append scope (variables_of site.declared.types items) ∙ ap (λ (n : ℕ). length scope + n) (length_of site.declared.types items)
 
 pub chosen : {A : Type 0} (b : Bool) (names : Binders) (part : Binders → Option A) → b ≡ true → IsThere (part names) → IsThere ((if b then Some names else None) >>= part)
 chosen true names part e h = h

@@ -33,7 +33,7 @@ use Rattle.mf_types.proofs.Faultless.{faultless_lists}
 use Rattle.mf_types.proofs.There.{IsThere, then_there, made_there, cons_there, first_empty, second_empty, not_met, each_there}
 use Rattle.mf_types.proofs.ThereTerms.{objects_there}
 use Rattle.mf_types.proofs.ThereExpressions.{expr_there, number_there, function_there}
-use Rattle.mf_types.proofs.ThereScopes.{few_words, names_of, chosen, within_test}
+use Rattle.mf_types.proofs.ThereScopes.{few_words, length_of, names_of, chosen, within_test}
 use Rattle.mf_types.proofs.ThereConditions.{cond_there, predicate_there, arguments_empty}
 use Rattle.mf_types.proofs.ThereEffects.{effect_there}
 use Rattle.mf_types.proofs.FewNames.{few_declared}
@@ -52,7 +52,7 @@ action_there site a e =
     let parts = second_empty first _ e in
     let condition_part = cond_faults site a.condition scope in
     let names_are = names_of site.declared.types a.parameters in
-    let same : length scope ≡ length a.parameters = length-map a.parameters _ in
+    let same : length scope ≡ length a.parameters = length_of site.declared.types a.parameters in
     let room : length scope ≤ 64 = omega (arith, count, same) in
     let condition = subst (λ (names : Binders). IsThere (cond_of site.declared a.condition names)) names_are (cond_there site a.condition scope room (first_empty condition_part _ parts)) in
     let effect = subst (λ (names : Binders). IsThere (effect_of site.declared a.effect names)) names_are (effect_there site a.effect scope room (second_empty condition_part _ parts)) in

@@ -20,8 +20,8 @@ use Rattle.mf_model.specs.Plain.{all_true}
 use Rattle.mf_model.specs.Resolution.{takes, typed_names}
 use Rattle.mf_types.specs.Names.{Declared, item_types}
 use Rattle.mf_types.specs.Typing.{Binders, inside, within, types_in, predicate_of, term_of, terms_of, expr_of, cond_step, cond_of}
-use Rattle.mf_types.specs.Valid as valid
-use Rattle.mf_types.specs.Valid.{Counts, are_types, are_type_lists, is_valid_term, is_valid_use, is_valid_expr, is_valid_cond, is_valid_quantifier}
+use Rattle.mf_model.specs.ValidTasks as valid
+use Rattle.mf_model.specs.ValidTasks.{Counts, are_types, are_type_lists, is_valid_term, is_valid_use, is_valid_expr, is_valid_cond, is_valid_quantifier}
 use Rattle.mf_types.specs.Written as written
 use Rattle.mf_types.specs.Written.{is_written_expr, is_written_cond}
 use Rattle.mf_types.proofs.Given.{IfGiven, Read, then_given, made_given, both_given, parts_given, all_at, first_true, second_true}

@@ -15,8 +15,8 @@ use Rattle.mf_model.specs.Plain.{all_true}
 use Rattle.mf_model.specs.Resolution.{takes}
 use Rattle.mf_types.specs.Names.{Declared}
 use Rattle.mf_types.specs.Typing.{Binders, within, types_in, function_of, terms_of, expr_of, cond_of, effect_step, effect_of}
-use Rattle.mf_types.specs.Valid as valid
-use Rattle.mf_types.specs.Valid.{Counts, is_valid_term, is_valid_use, is_valid_expr, is_valid_cond, is_valid_effect}
+use Rattle.mf_model.specs.ValidTasks as valid
+use Rattle.mf_model.specs.ValidTasks.{Counts, is_valid_term, is_valid_use, is_valid_expr, is_valid_cond, is_valid_effect}
 use Rattle.mf_types.specs.Written as written
 use Rattle.mf_types.specs.Written.{is_written_cond, is_written_effect}
 use Rattle.mf_types.proofs.Given.{IfGiven, Read, then_given, made_given, both_given, parts_given, all_at, first_true, second_true}

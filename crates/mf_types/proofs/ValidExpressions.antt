@@ -15,8 +15,8 @@ use Rattle.mf_model.specs.Plain.{all_true}
 use Rattle.mf_model.specs.Resolution.{number_of, takes}
 use Rattle.mf_types.specs.Names.{Declared}
 use Rattle.mf_types.specs.Typing.{Binders, number_in, function_of, terms_of, time_by, without_parameters, expr_step, expr_of}
-use Rattle.mf_types.specs.Valid as valid
-use Rattle.mf_types.specs.Valid.{Counts, is_valid_term, is_valid_expr}
+use Rattle.mf_model.specs.ValidTasks as valid
+use Rattle.mf_model.specs.ValidTasks.{Counts, is_valid_term, is_valid_expr}
 use Rattle.mf_types.specs.Written as written
 use Rattle.mf_types.specs.Written.{is_written_expr}
 use Rattle.mf_types.proofs.Given.{IfGiven, Read, anything, then_given, made_given, both_given, parts_given, all_map, first_true, second_true}

@@ -21,7 +21,7 @@ use Rattle.mf_model.specs.Resolution.{takes}
 use Rattle.mf_types.specs.Names.{Declared, declared_by, is_member, firsts, item_text, header_text, item_types, header_types, type_names, kept_types, parent_in}
 use Rattle.mf_types.specs.Tasks.{paired, type_named, object_named, symbol_named, action_of, objects_of, atom_of, fact_layer, fact_of, facts_of, value_of, values_of, term_key, metric_by, metric_of, IsTaskOf}
 use Rattle.mf_types.specs.Typing.{inside, types_in, predicate_of, function_of, number_in, expr_of, cond_of, effect_of}
-use Rattle.mf_types.specs.Valid.{Counts, counts_of, parameter_count, are_types, are_type_lists, is_valid_expr, is_valid_cond, is_valid_effect, IsValidAction, is_valid_atom, is_valid_value, IsValidTask}
+use Rattle.mf_model.specs.ValidTasks.{Counts, counts_of, parameter_count, are_types, are_type_lists, is_valid_expr, is_valid_cond, is_valid_effect, IsValidAction, is_valid_atom, is_valid_value, IsValidTask}
 use Rattle.mf_types.specs.Written.{is_written_cond, is_written_effect, is_written_action, is_written_metric, IsWritten}
 use Rattle.mf_types.proofs.Given.{IfGiven, Read, anything, taken, then_given, made_given, each_all, first_true, second_true}
 use Rattle.mf_types.proofs.Narrow.{every, are_numbers}

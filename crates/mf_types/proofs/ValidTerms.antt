@@ -11,7 +11,7 @@ use Rattle.mf_types.specs.Arguments.{is_variable}
 use Rattle.mf_types.specs.Names.{Declared}
 use Rattle.mf_types.specs.Tasks.{objects_of}
 use Rattle.mf_types.specs.Typing.{Binders, last_from, place_in, variable_at, object_at, term_of, terms_of, symbol_of}
-use Rattle.mf_types.specs.Valid.{Counts, is_valid_term, are_valid_terms, is_valid_use, are_objects, is_ground}
+use Rattle.mf_model.specs.ValidTasks.{Counts, is_valid_term, are_valid_terms, is_valid_use, are_objects, is_ground}
 use Rattle.mf_types.proofs.Given.{IfGiven, Read, given, then_given, each_given}
 
 -- what is declared, counted

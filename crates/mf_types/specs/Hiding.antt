@@ -1,6 +1,6 @@
 -- Variables in scope found by a table of names: each variable remembers the place of the outer one of the same
 -- name, which it hides.
-use Rattle.std.specs.Prelude.{◌≡◌, ℕ, Option, List, [], ◌∷◌, ◌++◌, map, if◌then◌else◌, Vec}
+use Rattle.std.specs.Prelude.{◌≡◌, ℕ, Option, Some, None, List, [], ◌∷◌, ◌++◌, map, if◌then◌else◌, Vec}
 use Rattle.std.specs.Str.{bytes_eq}
 use Rattle.indexmap.specs.IndexMap.{IndexMap, get_by}
 use Rattle.mf_types.specs.declared.binders.Binder.{Binder}
@@ -21,6 +21,11 @@ names_of stack = map (λ binder. binder.name) stack
 abbrev pub RememberHidden : Binders → List Binder → Type 0
 RememberHidden outer [] = Unit {0}
 RememberHidden outer (binder ∷ others) = (binder.hidden ≡ place_in outer binder.name) × RememberHidden (outer ++ binder.name ∷ []) others
+
+-- the types that are found, else these
+abbrev pub types_else : Option (List ℕ) → List ℕ → List ℕ
+types_else (Some types) own = types
+types_else None own = own
 
 -- for every name a table has the innermost place
 pub record IsKept (find : List ℕ → Option ℕ) (stack : List Binder) : Type 0 where

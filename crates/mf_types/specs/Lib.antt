@@ -1,6 +1,7 @@
 pub mod AllFaults
 pub mod Arguments
 pub mod Ascent
+pub mod BelowTop
 pub mod Conditions
 pub mod Cycles
 pub mod DeclarationFaults
@@ -10,7 +11,6 @@ pub mod Expressions
 pub mod Faults
 pub mod Gives
 pub mod Hiding
-pub mod Limits
 pub mod Names
 pub mod Places
 pub mod Quantified
@@ -23,6 +23,5 @@ pub mod Tables
 pub mod Tasks
 pub mod Typing
 pub mod Uses
-pub mod Valid
 pub mod Written
 pub mod Marks

@@ -2,7 +2,7 @@
 use Rattle.std.specs.Prelude.{◌≡◌, ℕ, Bool, true, false, ◌||◌, ◌⊎◌, List, slice_index_or}
 use Rattle.std.specs.List.{list_any}
 use Rattle.mf_types.specs.Ascent.{parent_at, up}
-use Rattle.mf_types.specs.Related.{descends}
+use Rattle.mf_types.specs.BelowTop.{descends}
 
 -- the marks have one place for each type
 abbrev pub is_marked : List Bool → ℕ → Bool

@@ -1,6 +1,7 @@
 -- Variables in scope: an action's parameters first, then the variables of quantifiers from the outside in.
 use Rattle.std.specs.Prelude.{ℕ, suc, Bool, if◌then◌else◌, Option, Some, None, List, [], ◌∷◌, map}
 use Rattle.std.specs.Str.{bytes_eq}
+use Rattle.mf_model.specs.Resolution.{typed_names}
 use Rattle.mf_model.specs.declared.form.Typed.{Typed}
 use Rattle.mf_types.specs.Names.{item_types}
 
@@ -15,11 +16,17 @@ variable name types = record { name = name; types = types }
 abbrev pub Scope : Type 0
 Scope = List Variable
 
-abbrev pub variable_of : List (List ℕ) → Typed → Variable
-variable_of names item = variable item.word.text (item_types names item)
+-- the types of the first item of a name
+abbrev pub first_types : List (List ℕ) → List Typed → List ℕ → List ℕ
+first_types names [] name = []
+first_types names (item ∷ items) name = if bytes_eq item.word.text name then item_types names item else first_types names items name
+
+-- of two variables of one name in one list the first is meant, so that both have its types
+abbrev pub variable_of : List (List ℕ) → List Typed → List ℕ → Variable
+variable_of names items name = variable name (first_types names items name)
 
 abbrev pub variables_of : List (List ℕ) → List Typed → Scope
-variables_of names items = map (variable_of names) items
+variables_of names items = map (variable_of names items) (typed_names items)
 
 -- a variable of a name, with its place in the binding
 pub record Placed : Type 0 where

@@ -1,7 +1,10 @@
--- What the grammar keeps of expressions: sums and products have two parts at least, and only a metric reads
--- `total-time` without brackets or as a function of that name.
-use Rattle.std.specs.Prelude.{Bool, true, false, ◌&&◌, nat_le, IsTrue, Option, Some, None, length, All}
+-- What the grammar keeps: sums and products have two parts at least, only a metric reads `total-time` without brackets
+-- or as a function of that name, no `when` effect occurs in another, and what is declared has a word of kind Name.
+use Rattle.std.specs.Prelude.{ℕ, ◌+◌, ◌≤◌, Bool, true, false, ◌&&◌, nat_le, IsTrue, Option, Some, None, length, All}
 use Rattle.mf_model.specs.Plain.{all_true}
+use Rattle.mf_model.specs.Tokens.{is_name}
+use Rattle.mf_model.specs.Trees.{greatest}
+use Rattle.mf_model.specs.declared.form.Word.{Word}
 use Rattle.mf_model.specs.declared.form.RawExpr.{RawExpr, fold-RawExpr}
 use Rattle.mf_model.specs.declared.form.RawExpr.TheOpen.{RawExpr-F}
 use Rattle.mf_model.specs.declared.form.RawCond.{RawCond, fold-RawCond}
@@ -59,7 +62,41 @@ abbrev pub is_written_metric : Option RawMetric → Bool
 is_written_metric None = true
 is_written_metric (Some metric) = is_written_expr true metric.value
 
+-- `when` effects
+
+abbrev pub when_step : RawEffect-F ℕ → ℕ
+when_step (RawEffect-F.Add predicate terms span) = 0
+when_step (RawEffect-F.Delete predicate terms span) = 0
+when_step (RawEffect-F.Change op function terms value span) = 0
+when_step (RawEffect-F.Group parts span) = greatest parts
+when_step (RawEffect-F.Each variables part span) = part
+when_step (RawEffect-F.When condition part span) = 1 + part
+
+-- how many `when` effects occur in one another
+abbrev pub when_depth : RawEffect → ℕ
+when_depth = fold-RawEffect ℕ when_step
+
+-- Names
+
+-- a word of kind Name, in lower case
+abbrev pub IsNamed : Word → Type 0
+IsNamed w = IsTrue (is_name w.text)
+
+-- what is declared, and the types above the declared ones
+pub record AreNamed (d : Domain) (p : Problem) : Type 0 where
+  pub types : All (λ item. IsNamed item.word) d.types
+  pub parents : All (λ item. All IsNamed item.types) d.types
+  pub constants : All (λ item. IsNamed item.word) d.constants
+  pub objects : All (λ item. IsNamed item.word) p.objects
+  pub predicates : All (λ h. IsNamed h.word) d.predicates
+  pub functions : All (λ h. IsNamed h.word) d.functions
+  pub actions : All (λ a. IsNamed a.word) d.actions
+
+-- Both files
+
 pub record IsWritten (d : Domain) (p : Problem) : Type 0 where
   pub actions : All (λ a. IsTrue (is_written_action a)) d.actions
   pub goal : IsTrue (is_written_cond p.goal)
   pub metric : IsTrue (is_written_metric p.metric)
+  pub flat : All (λ a. when_depth a.effect ≤ 1) d.actions
+  pub names : AreNamed d p

@@ -3,7 +3,7 @@ ghost use Rattle.std.specs.Bool.{OnTrue};
 ghost use Rattle.mf_types.specs.Ascent.{parent_at, up, IsOnCycle};
 ghost use Rattle.mf_types.specs.Marks.{AreClosedAbove, LeadsToMark};
 ghost use Rattle.mf_types.specs.Places as spec;
-ghost use Rattle.mf_types.specs.Related as related;
+ghost use Rattle.mf_types.specs.BelowTop as related;
 
 use crate::from_top::from_top;
 use crate::marks::is_marked;

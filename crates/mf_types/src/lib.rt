@@ -41,6 +41,7 @@ mod start_values;
 mod tables;
 mod type_row;
 mod type_table;
+mod upward;
 mod uses;
 mod words;
 
@@ -48,7 +49,7 @@ pub use fault::NameFault;
 pub use laws::least_is_answered;
 pub use least::{Fault, FaultKind};
 pub use meaning::{
-    faultless_files_have_a_task, objects_have_the_top_type, parameters_are_few, task_is_unique,
-    task_is_valid,
+    faultless_files_have_a_task, objects_have_the_top_type, parameters_are_few, task_is_resolved,
+    task_is_unique, task_is_valid,
 };
 pub use resolution::resolve;

@@ -3,10 +3,11 @@ ghost use Rattle.mf_model.specs.declared.form.Domain.{Domain};
 ghost use Rattle.mf_model.specs.declared.form.Problem.{Problem};
 ghost use Rattle.mf_model.specs.declared.task.TypedTask.{TypedTask};
 ghost use Rattle.mf_model.specs.Objects.{HaveTopType};
+ghost use Rattle.mf_model.specs.ResolvedTask.{IsResolvedTask};
 ghost use Rattle.mf_types.specs.AllFaults.{faults_of};
-ghost use Rattle.mf_types.specs.Limits.{HaveFewParameters};
+ghost use Rattle.mf_model.specs.TaskLimits.{HaveFewParameters};
 ghost use Rattle.mf_types.specs.Tasks.{IsTaskOf};
-ghost use Rattle.mf_types.specs.Valid.{IsValidTask};
+ghost use Rattle.mf_model.specs.ValidTasks.{IsValidTask};
 ghost use Rattle.mf_types.specs.Written.{IsWritten};
 
 /// A domain and a problem have one task at most.
@@ -32,4 +33,11 @@ pub fn objects_have_the_top_type()
 /// The predicates, functions and actions of two files without faults have at most 32 parameters each.
 pub fn parameters_are_few()
     ensures { (d : Domain) (p : Problem) (task : TypedTask) → faults_of d p ≡ [] → IsTaskOf d p task → HaveFewParameters task }
+{}
+
+/// The task of two files of the grammar without faults is a resolved task: it is valid and within the limits, its objects
+/// have the type `object`, its expressions are linear, its numbers fit and are in lowest terms, no `when` occurs in another,
+/// and its names are words of kind Name, pairwise different each in its space.
+pub fn task_is_resolved()
+    ensures { (d : Domain) (p : Problem) (task : TypedTask) → IsWritten d p → faults_of d p ≡ [] → IsTaskOf d p task → IsResolvedTask task }
 {}

@@ -1,7 +1,7 @@
 ghost use Rattle.std.specs.Prelude.{◌≡◌, ◌||◌, IfSome};
 ghost use Rattle.std.specs.List.{list_any};
 ghost use Rattle.mf_types.specs.Marks.{is_marked};
-ghost use Rattle.mf_types.specs.Related as spec;
+ghost use Rattle.mf_types.specs.BelowTop as spec;
 
 use crate::ancestry::Ancestry;
 use crate::marks::{is_some_marked, mark_above};

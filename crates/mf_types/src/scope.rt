@@ -1,6 +1,7 @@
-ghost use Rattle.std.specs.Prelude.{◌≡◌, [], ◌∷◌, ◌++◌, length, take, OnOk, OnErr};
+ghost use Rattle.std.specs.Prelude.{◌≡◌, [], ◌∷◌, ◌++◌, drop, length, take, OnOk, OnErr};
 ghost use Rattle.std.specs.Option.{option_copied};
 ghost use Rattle.mf_types.specs.Arguments.{types_at};
+ghost use Rattle.mf_types.specs.Hiding.{types_else};
 ghost use Rattle.mf_types.specs.Scopes as spec;
 
 use crate::binders::Binders;
@@ -68,6 +69,36 @@ impl Scope {
         Ok(())
     }
 
+    // The types of the innermost variable of a name, of those from a place on.
+    fn types_from(&self, first: usize, name: &[u8]) -> Option<&TypeRow>
+        ensures { option_copied result ≡ types_at (spec.find_in (drop first self.now) name.now) }
+    {
+        let place = self.binders.find(name)?;
+        if place < first {
+            return None;
+        }
+        Some(&self.types[place])
+    }
+
+    // Puts a variable of a list inside the others, where the list begins at a place. Of two
+    // variables of one name in a list the first is meant, so that both share its types.
+    fn push_of_list(
+        &mut self,
+        alloc: Global,
+        first: usize,
+        name: &[u8],
+        own: &TypeRow,
+    ) -> Result<(), AllocError>
+        ensures { OnOk result (self.new ≡ self.old ++ spec.variable name.now
+            (types_else (types_at (spec.find_in (drop first self.old) name.now)) own.now) ∷ []) }
+    {
+        let types = match self.types_from(first, name) {
+            Some(types) => types.share()?,
+            None => own.share()?,
+        };
+        self.push(alloc, name, types)
+    }
+
     /// Leaves so many of the outermost variables in scope.
     pub(crate) fn truncate(&mut self, len: usize)
         ensures { self.new ≡ take len self.old }
@@ -78,6 +109,7 @@ impl Scope {
 }
 
 /// Puts the variables of a list inside those in scope.
+#[tactic(auto, using(crate::proofs::FirstTypes::variable_more))]
 pub(crate) fn enter(
     alloc: Global,
     tables: &Tables,
@@ -88,9 +120,10 @@ pub(crate) fn enter(
         scope.old ++ spec.variables_of tables.now.types items.now) }
 {
     let rows = types_of_items(alloc, &tables.types, Some(&tables.parents), items)?;
+    let first = scope.len();
     for (n, item) in items.as_slice().iter().enumerate() {
-        let types = rows.as_slice()[n].share()?;
-        scope.push(alloc, item.word.text.as_slice(), types)?;
+        let name = item.word.text.as_slice();
+        scope.push_of_list(alloc, first, name, &rows.as_slice()[n])?;
     }
     Ok(())
 }

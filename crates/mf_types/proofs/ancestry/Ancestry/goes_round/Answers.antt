@@ -1,7 +1,7 @@
 use Rattle.std.proofs.Common.{◌-◌, ◌<◌, length, arith, ap, sym, ◌∙◌}
 use Rattle.std.proofs.lemmas.Bool.{OnTrue_from}
 use Rattle.std.specs.Bool.{IsTrue}
-use Rattle.mf_types.specs.Related.{descends}
+use Rattle.mf_types.specs.BelowTop.{descends}
 use Rattle.mf_types.proofs.Depths.{descends_round}
 use Rattle.mf_types.proofs.ancestry.Ancestry.goes_round.Goals as goal
 
