@@ -1,12 +1,14 @@
 pub mod ConditionLaw
 pub mod EffectLaw
 pub mod ExpressionLaw
+pub mod InstanceLemmas
 pub mod Judging
 pub mod Kept
 pub mod Ordered
 pub mod Outcomes
 pub mod Parts
 pub mod Placing
+pub mod Sorting
 pub mod Threading
 pub mod Truths
 pub mod Zero

@@ -1,9 +1,9 @@
 pub mod Answers
 pub mod Checked
+pub mod Entries
 pub mod Fired
 pub mod Judged
 pub mod Outcome
 pub mod Places
 pub mod Results
-pub mod Scope
 pub mod Width

@@ -1,7 +1,9 @@
 ghost use Rattle.mf_eval.specs.Fired.{changes_in};
 ghost use Rattle.mf_eval.specs.Outcome.{Gives, changed_outcome, outcome_for, outcome_of};
-ghost use Rattle.mf_eval.specs.Scope.{action_scope_of};
-ghost use Rattle.std.specs.Prelude.{◌+◌, ◌≤◌, Some, length, slice_get};
+ghost use Rattle.mf_model.specs.Application.{instances_of};
+ghost use Rattle.mf_model.specs.ResolvedTask.{IsResolvedTask};
+ghost use Rattle.mf_model.specs.VariableScopes.{action_scope_of};
+ghost use Rattle.std.specs.Prelude.{◌+◌, ◌≤◌, Contains, Some, length};
 
 use crate::atoms::changed_atoms;
 use crate::binding::places;
@@ -29,8 +31,8 @@ pub fn apply(
     instance: &Instance,
     state: &PlainState,
 ) -> Result<PlainState, ApplyFault>
-    requires objects { length task.now.objects ≤ 65535 }
-    requires variables { length instance.now.objects + action_scope_of (slice_get task.now.actions instance.now.action) ≤ 64 }
+    requires resolved { IsResolvedTask task.now }
+    requires step { Contains (instances_of task.now) instance.now }
     ensures { Gives (outcome_of task.now state.now instance.now) result }
 {
     let Some(action) = task.actions.get(usize::from(instance.action)) else {
@@ -46,7 +48,7 @@ pub fn apply(
     )
 }
 
-fn apply_action(
+pub(crate) fn apply_action(
     alloc: Global,
     scene: &Scene<'_>,
     action: &Action,

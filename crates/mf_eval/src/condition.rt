@@ -1,6 +1,7 @@
 ghost use Rattle.mf_eval.specs.Answers.{answered};
 ghost use Rattle.mf_eval.specs.Judged.{judged, judged_all, judged_parts, judged_quantifier, judged_with, met};
-ghost use Rattle.mf_eval.specs.Scope.{scope_of};
+ghost use Rattle.mf_model.specs.ResolvedTask.{IsResolvedTask};
+ghost use Rattle.mf_model.specs.VariableScopes.{scope_of};
 ghost use Rattle.mf_model.specs.Trees.{greatest};
 ghost use Rattle.mf_eval.specs.Width.{is_condition_wide};
 ghost use Rattle.mf_model.specs.Meaning.{truth_in};
@@ -29,7 +30,7 @@ pub fn holds(
     binding: &[u16],
     state: &PlainState,
 ) -> Result<Truth, Wide>
-    requires objects { length task.now.objects ≤ 65535 }
+    requires resolved { IsResolvedTask task.now }
     requires variables { length binding.now + scope_of condition.now ≤ 64 }
     ensures { result ≡ answered (is_condition_wide (kinds_of task.now) (look_of state.now) condition.now binding.now)
         (truth_in (kinds_of task.now) (look_of state.now) condition.now binding.now) }

@@ -1,6 +1,6 @@
 ghost use Rattle.mf_eval.specs.Fired.{changes_in, fired, fired_each, fired_parts, fired_when, fired_with, threaded};
 ghost use Rattle.mf_eval.specs.Outcome.{Reads};
-ghost use Rattle.mf_eval.specs.Scope.{effect_scope_of, scope_of};
+ghost use Rattle.mf_model.specs.VariableScopes.{effect_scope_of, scope_of};
 ghost use Rattle.mf_model.specs.Trees.{greatest};
 ghost use Rattle.mf_model.specs.Objects.{having, kinds_of};
 ghost use Rattle.mf_model.specs.States.{look_of};

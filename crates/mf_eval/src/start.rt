@@ -1,11 +1,13 @@
 ghost use Rattle.mf_model.specs.States.{start_of, with_atom, with_value};
+ghost use Rattle.mf_eval.specs.Entries.{as_valued};
 ghost use Rattle.std.specs.List.{fold};
-ghost use Rattle.std.specs.Prelude.{◌≡◌, [], IfOk};
+ghost use Rattle.std.specs.Prelude.{◌≡◌, [], IfOk, map};
 
 use crate::fault::Memory;
-use crate::sorted::{put_atom, put_value};
-use mf_model::{Atom, List, PlainState, TypedTask, Valued};
+use mf_fraction::Frac;
+use mf_model::{Atom, Cell, List, PlainState, TypedTask, Valued};
 use std::alloc::Global;
+use std::collections::{BTreeMap, BTreeSet};
 
 /// The start of the task: its atoms and values, sorted and without repeats.
 pub fn start_state(alloc: Global, task: &TypedTask) -> Result<PlainState, Memory>
@@ -20,9 +22,19 @@ pub fn start_state(alloc: Global, task: &TypedTask) -> Result<PlainState, Memory
 fn start_atoms(alloc: Global, listed: &[Atom]) -> Result<Vec<Atom>, Memory>
     ensures { IfOk result (λ atoms. atoms.items ≡ fold with_atom [] listed.now) }
 {
-    let mut atoms = Vec::new(alloc);
+    let mut sorted = Vec::new(alloc);
+    for atom in atom_set(alloc, listed)? {
+        sorted.push(atom)?;
+    }
+    Ok(sorted)
+}
+
+fn atom_set(alloc: Global, listed: &[Atom]) -> Result<BTreeSet<Atom>, Memory>
+    ensures { IfOk result (λ atoms. atoms.keys ≡ fold with_atom [] listed.now) }
+{
+    let mut atoms = BTreeSet::new(alloc);
     for atom in listed {
-        put_atom(&mut atoms, atom.copy(alloc)?)?;
+        atoms.insert(atom.copy(alloc)?)?;
     }
     Ok(atoms)
 }
@@ -30,9 +42,19 @@ fn start_atoms(alloc: Global, listed: &[Atom]) -> Result<Vec<Atom>, Memory>
 fn start_values(alloc: Global, listed: &[Valued]) -> Result<Vec<Valued>, Memory>
     ensures { IfOk result (λ values. values.items ≡ fold with_value [] listed.now) }
 {
-    let mut values = Vec::new(alloc);
+    let mut sorted = Vec::new(alloc);
+    for (cell, value) in value_map(alloc, listed)? {
+        sorted.push(Valued { cell, value })?;
+    }
+    Ok(sorted)
+}
+
+fn value_map(alloc: Global, listed: &[Valued]) -> Result<BTreeMap<Cell, Frac>, Memory>
+    ensures { IfOk result (λ values. map as_valued values.entries ≡ fold with_value [] listed.now) }
+{
+    let mut values = BTreeMap::new(alloc);
     for valued in listed {
-        put_value(&mut values, valued.copy(alloc)?)?;
+        values.insert(valued.cell.copy(alloc)?, valued.value)?;
     }
     Ok(values)
 }

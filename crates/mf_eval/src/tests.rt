@@ -1,11 +1,15 @@
-ghost use Rattle.mf_eval.specs.Scope.{action_scope_of, effect_scope_of, scope_of};
-ghost use Rattle.std.specs.Prelude.{◌≡◌, IfOk, [], ◌∷◌, Some, slice_get};
+ghost use Rattle.mf_model.specs.VariableScopes.{action_scope_of, effect_scope_of, scope_of};
+ghost use Rattle.std.specs.Prelude.{◌≡◌, IfOk, [], ◌∷◌, Some};
 
-use crate::{Truth, apply, holds, start_state, value};
+use crate::applying::apply_action;
+use crate::binding::places;
+use crate::condition::judge;
+use crate::scene::Scene;
+use crate::{Truth, start_state, value};
 use mf_fraction::Frac;
 use mf_model::{
-    Action, Atom, Cell, Cond, Effect, Expr, Instance, List, Op, PlainState, Relation, Term, Text,
-    TypedTask, Valued,
+    Action, Atom, Cell, Cond, Effect, Expr, List, Op, PlainState, Relation, Term, Text, TypedTask,
+    Valued,
 };
 use sqlite_items::Items;
 use std::alloc::Global;
@@ -45,6 +49,11 @@ fn state(alloc: Global, place: u16, fuel: i64) -> Result<PlainState, Fail> {
             valued(alloc, 1, &[1], 7)?,
         ]?),
     })
+}
+
+// The state of the other place, with 1 less of the fuel.
+fn moved_state(alloc: Global) -> Result<PlainState, Fail> {
+    state(alloc, 1, 1)
 }
 
 fn fuel(alloc: Global) -> Expr {
@@ -109,7 +118,6 @@ fn one<T: Drop>(alloc: Global, item: T) -> Result<List<T>, Fail>
 // The atoms and values of a start are in no order, and one atom is there twice.
 fn task(alloc: Global) -> Result<TypedTask, Fail>
     ensures objects { IfOk result (λ task. task.objects ≡ []) }
-    ensures actions { IfOk result (λ task. action_scope_of (slice_get task.actions 0) ≡ 0) }
     ensures goal { IfOk result (λ task. scope_of task.goal ≡ 0) }
 {
     Ok(TypedTask {
@@ -145,12 +153,14 @@ fn the_start_is_in_order(rt: HostRuntime) -> Result<(), Fail> {
 #[test]
 fn an_action_makes_a_state(rt: HostRuntime) -> Result<(), Fail> {
     let alloc = rt.alloc();
-    let instance = Instance {
-        action: 0,
-        objects: List::from_slice(alloc, &[0, 1])?,
+    let task = task(alloc)?;
+    let state = state(alloc, 0, 2)?;
+    let scene = Scene {
+        task: &task,
+        state: &state,
     };
-    let next = apply(alloc, &task(alloc)?, &instance, &state(alloc, 0, 2)?)?;
-    assert!(rt; next == state(alloc, 1, 1)?);
+    let next = apply_action(alloc, &scene, &go(alloc)?, &[0, 1])?;
+    assert!(rt; next == moved_state(alloc)?);
     Ok(())
 }
 
@@ -161,6 +171,11 @@ fn the_fuel_is_read(rt: HostRuntime) -> Result<(), Fail> {
     let state = state(alloc, 0, 2)?;
     let left = value(&task, &fuel(alloc), &[], &state, 1)?;
     assert!(rt; left == Some(Frac::whole(2)?));
-    assert!(rt; holds(&task, &task.goal, &[], &state)? == Truth::Yes);
+    let scene = Scene {
+        task: &task,
+        state: &state,
+    };
+    let mut binding = places(alloc, &[]);
+    assert!(rt; judge(&scene, &task.goal, &mut binding)? == Truth::Yes);
     Ok(())
 }

@@ -28,3 +28,6 @@ within_rest bytes at n inside below =
 pub AppendsFront-all : (bytes : List ℕ) (before after : Option (List ℕ)) → Appends bytes before after → AppendsFront bytes before after
 AppendsFront-all bytes before after all =
     (length bytes, omega arith, rw (take-length bytes) all)
+
+-- a step of putting all bytes
+pub ruleset putting = (Appends-more, within_rest)

@@ -18,10 +18,11 @@ abbrev pub Rose : ℕ → ℕ → Type 0
 Rose before after = (before < after) ⊎ ((before ≡ greatest_count) × (after ≡ greatest_count))
 
 -- A put of `piece`, with what is written and the count of faults before and after:
--- at least one byte and no more than all are taken, and stand behind what was written;
+-- at least one byte and no more than all are taken, and stand behind what was written, and the count of faults stays;
 -- or nothing is, and the count of faults rose; or memory was wanted, and nothing changed.
 abbrev pub Puts : List ℕ → Option (List ℕ) → Option (List ℕ) → ℕ → ℕ → Result ℕ PutFault → Type 0
-Puts piece before after faults_before faults_after (Ok n) = (0 < n) × (n ≤ length piece) × Appends (take n piece) before after
+Puts piece before after faults_before faults_after (Ok n) =
+    (0 < n) × (n ≤ length piece) × Appends (take n piece) before after × (faults_after ≡ faults_before)
 Puts piece before after faults_before faults_after (Err Failed) = Rose faults_before faults_after × (after ≡ before)
 Puts piece before after faults_before faults_after (Err Memory) = (after ≡ before) × (faults_after ≡ faults_before)
 

@@ -1,4 +1,3 @@
-pub mod InstanceLemmas
 pub mod VerdictLemmas
 pub mod Applying
 pub mod Exactness

@@ -1,4 +1,4 @@
-ghost use Rattle.mf_eval.specs.Scope.{BindsFewVariables, scope_of};
+ghost use Rattle.mf_model.specs.ResolvedTask.{IsResolvedTask};
 ghost use Rattle.mf_eval.specs.declared.fault.Why.{Why};
 ghost use Rattle.mf_model.specs.Application.{instances_of};
 ghost use Rattle.mf_model.specs.States.{start_of};
@@ -6,7 +6,7 @@ ghost use Rattle.mf_validator.specs.Validity.{Fails, IsValid, IsWideAt, MissesGo
 ghost use Rattle.mf_validator.specs.declared.verdict.Reported.{Reported};
 ghost use Rattle.mf_validator.specs.Verdicts.{Gives, end_verdict, refused_verdict, reported_value, valid_verdict, verdict_of};
 ghost use Rattle.std.specs.List.{All};
-ghost use Rattle.std.specs.Prelude.{◌≡◌, ◌+◌, ◌≤◌, ◌<◌, ◌^◌, ℕ, Contains, Some, Ok, Err, length};
+ghost use Rattle.std.specs.Prelude.{◌≡◌, ◌+◌, ◌<◌, ◌^◌, ℕ, Contains, Some, Ok, Err, length};
 
 use crate::fault::JudgeFault;
 use crate::verdict::{Reported, Verdict};
@@ -22,10 +22,8 @@ use std::alloc::Global;
 /// or where the goal holds and a value of the metric does not fit.
 pub fn judge(alloc: Global, task: &TypedTask, plan: &[Instance]) -> Result<Verdict, JudgeFault>
     requires few { length plan.now + 1 < 2 ^ 32 }
-    requires objects { length task.now.objects ≤ 65535 }
-    requires variables { All BindsFewVariables task.now.actions }
+    requires resolved { IsResolvedTask task.now }
     requires steps { All (Contains (instances_of task.now)) plan.now }
-    requires goal { scope_of task.now.goal ≤ 64 }
     ensures answer { Gives (verdict_of task.now plan.now) result }
     ensures valid { (metric : Reported) → result ≡ Ok (Verdict.Valid metric) → IsValid task.now plan.now metric }
     ensures step_fails { (step : ℕ) (why : Why) → result ≡ Ok (Verdict.StepFails step why) → StopsAt task.now (Fails task.now why) (start_of task.now) plan.now step }
@@ -38,10 +36,8 @@ pub fn judge(alloc: Global, task: &TypedTask, plan: &[Instance]) -> Result<Verdi
 // The steps one after another, and then the end.
 fn walk(alloc: Global, task: &TypedTask, plan: &[Instance]) -> Result<Verdict, JudgeFault>
     requires few { length plan.now + 1 < 2 ^ 32 }
-    requires objects { length task.now.objects ≤ 65535 }
-    requires variables { All BindsFewVariables task.now.actions }
+    requires resolved { IsResolvedTask task.now }
     requires steps { All (Contains (instances_of task.now)) plan.now }
-    requires goal { scope_of task.now.goal ≤ 64 }
     ensures { Gives (verdict_of task.now plan.now) result }
 {
     let mut state = start_state(alloc, task)?;
@@ -68,8 +64,7 @@ fn refused(fault: ApplyFault, step: u32) -> Result<Verdict, JudgeFault>
 // The verdict after all of so many steps.
 fn conclude(task: &TypedTask, state: &PlainState, steps: u32) -> Result<Verdict, JudgeFault>
     requires few { steps + 1 < 2 ^ 32 }
-    requires objects { length task.now.objects ≤ 65535 }
-    requires goal { scope_of task.now.goal ≤ 64 }
+    requires resolved { IsResolvedTask task.now }
     ensures { result ≡ end_verdict task.now steps state.now }
 {
     let Ok(truth) = holds(task, &task.goal, &[], state) else {

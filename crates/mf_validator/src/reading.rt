@@ -1,4 +1,5 @@
 ghost use Rattle.mf_model.specs.Application.{instances_of};
+ghost use Rattle.mf_model.specs.ResolvedTask.{IsResolvedTask};
 ghost use Rattle.mf_validator.specs.Lexicons.{Adds, Knows};
 ghost use Rattle.mf_validator.specs.PlanLines.{is_line_feed, line_of, lines_of};
 ghost use Rattle.mf_validator.specs.PlanText.{Reads, folded, plan_of, steps_from, steps_of};
@@ -28,8 +29,7 @@ pub fn read_plan(
     task: &TypedTask,
 ) -> Result<List<Instance>, PlanFault>
     requires size { length source.now ≤ 16777216 }
-    requires actions { length task.now.actions ≤ 65535 }
-    requires objects { length task.now.objects ≤ 65535 }
+    requires resolved { IsResolvedTask task.now }
     ensures plan { Reads (plan_of source.now task.now) result }
     ensures instances { IfOk result (All (Contains (instances_of task.now))) }
     ensures few { IfOk result (λ plan. length plan ≤ length source.now) }
@@ -37,7 +37,11 @@ pub fn read_plan(
     read_text(alloc, source, task)
 }
 
-fn read_text(alloc: Global, source: &[u8], task: &TypedTask) -> Result<List<Instance>, PlanFault>
+pub(crate) fn read_text(
+    alloc: Global,
+    source: &[u8],
+    task: &TypedTask,
+) -> Result<List<Instance>, PlanFault>
     requires size { length source.now ≤ 16777216 }
     requires actions { length task.now.actions ≤ 65535 }
     requires objects { length task.now.objects ≤ 65535 }

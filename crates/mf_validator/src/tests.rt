@@ -1,9 +1,7 @@
-ghost use Rattle.mf_eval.specs.Scope.{BindsFewVariables, effect_scope_of, scope_of};
-ghost use Rattle.std.specs.List.{All};
-ghost use Rattle.std.specs.Prelude.{◌≡◌, ◌+◌, ◌≤◌, [], ◌∷◌, IfOk, Some, length};
+ghost use Rattle.std.specs.Prelude.{◌≡◌, ◌≤◌, [], ◌∷◌, IfOk, length};
 
-use crate::{PlanFault, Reported, Verdict, Why, judge, read_plan};
-use mf_fraction::Frac;
+use crate::PlanFault;
+use crate::reading::read_text;
 use mf_model::{
     Action, Atom, Cond, Effect, Expr, List, Metric, Object, SharedList, Symbol, Term, Text,
     TypeName, TypedTask, Types,
@@ -37,18 +35,14 @@ fn place(alloc: Global) -> Result<Types, Fail> {
     Ok(SharedList::from_list(List::from_slice(alloc, &[1])?)?)
 }
 
-fn at(alloc: Global, place: Term) -> Result<Cond, Fail>
-    ensures { IfOk result (λ condition. scope_of condition ≡ 0) }
-{
+fn at(alloc: Global, place: Term) -> Result<Cond, Fail> {
     Ok(Cond::Atom {
         predicate: 0,
         terms: one(alloc, place)?,
     })
 }
 
-fn arrive(alloc: Global) -> Result<Effect, Fail>
-    ensures { IfOk result (λ effect. effect_scope_of effect ≡ 0) }
-{
+fn arrive(alloc: Global) -> Result<Effect, Fail> {
     Ok(Effect::Add {
         predicate: 0,
         terms: one(alloc, Term::Variable(1))?,
@@ -56,9 +50,7 @@ fn arrive(alloc: Global) -> Result<Effect, Fail>
 }
 
 // `go ?from ?to`: from a place to another.
-fn go(alloc: Global) -> Result<Action, Fail>
-    ensures { IfOk result BindsFewVariables }
-{
+fn go(alloc: Global) -> Result<Action, Fail> {
     Ok(Action {
         name: text(alloc, "go")?,
         parameters: two(alloc, place(alloc)?, place(alloc)?)?,
@@ -84,9 +76,7 @@ fn type_name(alloc: Global, name: &str) -> Result<TypeName, Fail> {
 // Two places, of which one is to be reached in few steps.
 fn task(alloc: Global) -> Result<TypedTask, Fail>
     ensures actions { IfOk result (λ task. length task.actions ≡ 1) }
-    ensures few { IfOk result (λ task. All BindsFewVariables task.actions) }
     ensures objects { IfOk result (λ task. length task.objects ≡ 2) }
-    ensures goal { IfOk result (λ task. scope_of task.goal ≡ 0) }
 {
     Ok(TypedTask {
         types: two(
@@ -120,52 +110,14 @@ fn task(alloc: Global) -> Result<TypedTask, Fail>
     })
 }
 
-fn verdict(alloc: Global, plan: &str) -> Result<Verdict, Fail>
-    requires { length plan.now ≤ 1000 }
-{
-    let task = task(alloc)?;
-    let plan = read_plan(alloc, plan.as_bytes(), &task)?;
-    Ok(judge(alloc, &task, plan.as_slice())?)
-}
-
 fn fault(alloc: Global, plan: &str) -> Result<Option<PlanFault>, Fail>
     requires { length plan.now ≤ 1000 }
 {
     let task = task(alloc)?;
-    match read_plan(alloc, plan.as_bytes(), &task) {
+    match read_text(alloc, plan.as_bytes(), &task) {
         Ok(_) => Ok(None),
         Err(fault) => Ok(Some(fault)),
     }
-}
-
-#[test]
-fn plans_are_judged(rt: HostRuntime) -> Result<(), Fail> {
-    let alloc = rt.alloc();
-    let valid = Verdict::Valid {
-        metric: Reported::Value(Frac::whole(1)?),
-    };
-    assert!(rt; verdict(alloc, "(go a b)\n")? == valid);
-    let fails = Verdict::StepFails {
-        step: 2,
-        why: Why::Condition,
-    };
-    assert!(rt; verdict(alloc, "(go a a)\n(go b a)\n(go a b)\n")? == fails);
-    Ok(())
-}
-
-#[test]
-fn spellings_are_free(rt: HostRuntime) -> Result<(), Fail> {
-    let verdict = verdict(
-        rt.alloc(),
-        "; a plan\n \t\r\n0.000:(GO A\tA )[1.000]\n -1: ( Go a b) [0.5] ; to b",
-    )?;
-    assert!(rt;
-        verdict
-            == Verdict::Valid {
-                metric: Reported::Value(Frac::whole(2)?)
-            }
-    );
-    Ok(())
 }
 
 #[test]

@@ -2,7 +2,7 @@ use Rattle.std.proofs.Common.{rules, arith, ap, length}
 use Rattle.mf_model.specs.declared.task.Cond.{the_lemmas}
 use Rattle.mf_model.specs.Objects.{kinds_of}
 use Rattle.mf_model.specs.States.{look_of}
-use Rattle.mf_eval.specs.Scope.{scope_of}
+use Rattle.mf_model.specs.VariableScopes.{scope_of}
 use Rattle.mf_eval.proofs.Judging.{judged-atom_arm, within_greatest}
 use Rattle.mf_eval.proofs.condition.+judge.Goals as goal
 

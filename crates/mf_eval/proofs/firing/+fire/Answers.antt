@@ -4,7 +4,7 @@ use Rattle.mf_model.specs.declared.task.Effect.{the_lemmas}
 use Rattle.mf_model.specs.Objects.{kinds_of}
 use Rattle.mf_model.specs.States.{look_of}
 use Rattle.mf_eval.specs.Fired.{changes_in}
-use Rattle.mf_eval.specs.Scope.{effect_scope_of}
+use Rattle.mf_model.specs.VariableScopes.{effect_scope_of}
 use Rattle.mf_eval.proofs.Judging.{within_greatest}
 use Rattle.mf_eval.proofs.Threading.{threaded_fails, threaded_more}
 use Rattle.mf_eval.proofs.firing.+fire.Goals as goal

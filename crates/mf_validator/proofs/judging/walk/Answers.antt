@@ -7,16 +7,14 @@ use Rattle.mf_eval.specs.Outcome.{outcome_of}
 use Rattle.mf_validator.specs.declared.fault.JudgeFault.{JudgeFault}
 use Rattle.mf_validator.specs.declared.verdict.Verdict.{Verdict}
 use Rattle.mf_validator.specs.Verdicts.{Gives, refused_verdict, verdict_from}
-use Rattle.mf_validator.proofs.InstanceLemmas.{binds_few}
 use Rattle.mf_validator.proofs.VerdictLemmas.{step-at, step_done, step_refused}
 use Rattle.mf_validator.proofs.judging.walk.Goals as goal
 
-pub apply-requires-clause-variables : goal.apply-requires-clause-variables
-apply-requires-clause-variables c =
+pub apply-requires-clause-step : goal.apply-requires-clause-step
+apply-requires-clause-step c =
     let task = c.args.task.now in
     let step = c.index-plan-done.result in
-    let within : Contains (instances_of task) step = subst (λ (s : Instance). Contains (instances_of task) s) (sym c.index-plan-done.is) (All-get_or (Contains (instances_of task)) c.args.plan.now c.loop-done.done step c.loop-done-test.true c.requires.steps) in
-    binds_few task step c.requires.variables within
+    subst (λ (s : Instance). Contains (instances_of task) s) (sym c.index-plan-done.is) (All-get_or (Contains (instances_of task)) c.args.plan.now c.loop-done.done step c.loop-done-test.true c.requires.steps)
 
 pub returns-in-Err : goal.returns-in-Err
 returns-in-Err c =

@@ -7,7 +7,7 @@ use Rattle.mf_model.specs.declared.task.Action.{Action}
 use Rattle.mf_model.specs.declared.task.TypedTask.{TypedTask}
 use Rattle.mf_model.specs.Application.{instances_from, instances_of}
 use Rattle.mf_model.specs.Objects.{bindings, having, kinds_of}
-use Rattle.mf_eval.specs.Scope.{action_scope_of, BindsFewVariables}
+use Rattle.mf_model.specs.VariableScopes.{action_scope_of, BindsFewVariables}
 
 all-flat_map : {X A : Type 0} (P : A → Type 0) (f : X → List A) → ((x : X) → All P (f x)) → (xs : List X) → All P (flat_map f xs)
 all-flat_map P f h [] = All-nil P
