@@ -1,188 +1,287 @@
--- How the loads of files go together.
-use Rattle.std.proofs.Common.{◌≡◌, ℕ, IsTrue, false, inl, inr, Option, Result, Ok, Err, List, [], ◌∷◌, ◌++◌, map, refl, sym, ◌∙◌, ap, subst, append-nil, arith}
-use Rattle.std.proofs.lemmas.List.{append_assoc}
+-- What follows from how the loads of a call end.
+use Rattle.std.proofs.Common.{◌≡◌, ◌≢◌, ℕ, ◌≤◌, ◌<◌, ◌⊎◌, inl, inr, true, false, All, Option, Some, None, IfSome, List, [], ◌∷◌, ◌++◌, map, length, refl, sym, ◌∙◌, ap, subst, append-nil, arith}
 use Rattle.std.proofs.lemmas.Bool.{false≢true}
+use Rattle.std.proofs.lemmas.List.{append_assoc}
+use Rattle.std.proofs.lemmas.List.Prefix.{front_rest}
+use Rattle.std.specs.List.{AllZip}
 use Rattle.mf_io.specs.declared.folder.Loading.{Loading}
 use Rattle.mf_io.specs.Folder.{Notes}
-use Rattle.mf_io.specs.Sink.{Appends}
-use Rattle.mf_model.specs.declared.task.TypedTask.{TypedTask}
-use Rattle.mf_top.specs.declared.outcome.Stop.{Stop}
-use Rattle.mf_top.specs.declared.outcome.Stop.TheVariants.{CannotRead, TooLong, Refused, PlanRefused, NotBuilt, OutOfMemory}
-use Rattle.mf_top.specs.Calls.{last_failed, OnlyLastFailed, SaysUnread}
-use Rattle.mf_top.specs.Loads.{Reads, LoadsFile, AreRead, StopsAt, StopsLoading, found, lost}
-use Rattle.mf_top.specs.Reading.{LoadsTask, ReadsTask, StopsTask}
-use Rattle.mf_top.specs.Texts.{stop_status, stop_text, unread_text}
+use Rattle.mf_top.specs.declared.decision.Decision.{Decision}
+use Rattle.mf_top.specs.Call.{Call, Says, SomeSinkFails, IsUnlessFault, LoadsFront, FailsAt, LastLoadFails, Keeps}
+use Rattle.mf_top.specs.Decision.{no_history, stops, refuses, out_of_memory, IsUnlessMemory}
+use Rattle.mf_top.specs.Loads.{greatest_length, found_load, failed_load, Reads, IsTooLong, EndsLoad, AreRead, EndsLoads, LoadsThen, Tells, AllFit, SomeIsTooLong, IsLengthRefusal}
+use Rattle.mf_top.specs.Texts.{unread_text, too_long_text}
+use Rattle.mf_top.proofs.CallLemmas.{Delivered, Concluded, stands, stands_as, memory_stands, concluded, put_failed, rise_answered, at_most, wrote_empty, says_as, status_as}
 
--- Two files
+-- Steps
 
--- the load of a file stops the call
-pub stop_at : (held : List ℕ → Option (List ℕ)) (name : List ℕ) (before after : List Loading) (stop : Stop) →
-    LoadsFile (held name) name before after (Err stop) → (loads : List Loading) × (after ≡ before ++ loads) × StopsAt held name loads stop
-stop_at held name before after (CannotRead n) load = (lost name ∷ [], load.1, (load.0, refl))
-stop_at held name before after (TooLong n) load = (found name ∷ [], load.2, (load.0, refl, load.1))
-stop_at held name before after OutOfMemory load = ([], load ∙ sym (append-nil before), refl)
-stop_at held name before after (Refused n refusal) load = absurd load
-stop_at held name before after (PlanRefused n flaw line) load = absurd load
-stop_at held name before after NotBuilt load = absurd load
+-- the load of a file that was read before the load that ends the call
+pub ends_later : (held : List ℕ → Option (List ℕ)) (name : List ℕ) (names : List (List ℕ)) (bytes : List ℕ) (before middle after : List Loading) (decision : Decision) →
+    Notes name false before middle → Reads (held name) bytes → EndsLoads held names middle after decision → EndsLoads held (name ∷ names) before after decision
+ends_later held name names bytes before middle after decision noted reads ends =
+    inr (bytes, reads, subst (λ log. EndsLoads held names log after decision) noted ends)
 
--- the log behind a load of a file and further loads
-grown_by : (before middle after rest : List Loading) (first : Loading) → middle ≡ before ++ first ∷ [] → after ≡ middle ++ rest → after ≡ before ++ first ∷ rest
-grown_by before middle after rest first one others = others ∙ ap (λ log. log ++ rest) one ∙ append_assoc before (first ∷ []) rest
+-- what is said of a folder that holds the same
+pub ends_kept : (held kept : List ℕ → Option (List ℕ)) (name : List ℕ) (before after : List Loading) (decision : Decision) →
+    kept ≡ held → EndsLoad (kept name) name before after decision → EndsLoad (held name) name before after decision
+ends_kept held kept name before after decision same ends = subst (λ (h : List ℕ → Option (List ℕ)). EndsLoad (h name) name before after decision) same ends
 
--- the domain was read, and the load of the problem stops the call
-pub second_stops : (held : List ℕ → Option (List ℕ)) (domain problem bytes : List ℕ) (before middle after : List Loading) (stop : Stop) →
-    Reads (held domain) bytes → Notes domain false before middle → LoadsFile (held problem) problem middle after (Err stop) →
-    (loads : List Loading) × (after ≡ before ++ loads) × StopsTask held domain problem loads stop
-second_stops held domain problem bytes before middle after stop read one load =
-    let at = stop_at held problem middle after stop load in
-    (found domain ∷ at.0, grown_by before middle after at.0 (found domain) one at.1, inl (inr (bytes, at.0, read, refl, inl at.2)))
+pub reads_kept : (held kept : List ℕ → Option (List ℕ)) (name bytes : List ℕ) → kept ≡ held → Reads (kept name) bytes → Reads (held name) bytes
+reads_kept held kept name bytes same reads = subst (λ (h : List ℕ → Option (List ℕ)). Reads (h name) bytes) same reads
 
--- both files were read
-pub both_read : (held : List ℕ → Option (List ℕ)) (domain problem domain_bytes problem_bytes : List ℕ) (before middle after : List Loading) →
-    Reads (held domain) domain_bytes → Notes domain false before middle → Reads (held problem) problem_bytes → Notes problem false middle after →
-    (loads : List Loading) × (after ≡ before ++ loads) × AreRead held (domain ∷ problem ∷ []) loads (domain_bytes ∷ problem_bytes ∷ [])
-both_read held domain problem domain_bytes problem_bytes before middle after first one second two = (
-  found domain ∷ found problem ∷ [],
-  grown_by before middle after (found problem ∷ []) (found domain) one two,
-  record { noted = refl; read = (first, (second, tt)) },
-)
+-- The log
 
--- both files were read, and their bytes say what the call goes on with
-pub task_ends : (held : List ℕ → Option (List ℕ)) (domain problem domain_bytes problem_bytes : List ℕ) (before after : List Loading) (result : Result TypedTask Stop) →
-    ((loads : List Loading) × (after ≡ before ++ loads) × AreRead held (domain ∷ problem ∷ []) loads (domain_bytes ∷ problem_bytes ∷ [])) →
-    ReadsTask domain problem domain_bytes problem_bytes result →
-    (loads : List Loading) × (after ≡ before ++ loads) × LoadsTask held domain problem loads result
-task_ends held domain problem domain_bytes problem_bytes before after (Ok task) (loads, grown, read) says =
-    (loads, grown, record { domain_bytes = domain_bytes; problem_bytes = problem_bytes; read = read; says = says })
-task_ends held domain problem domain_bytes problem_bytes before after (Err stop) (loads, grown, read) says =
-    (loads, grown, inr (record { domain_bytes = domain_bytes; problem_bytes = problem_bytes; read = read; says = says }))
+front_more : (name : List ℕ) (names : List (List ℕ)) (before after : List Loading) → LoadsFront names (before ++ found_load name ∷ []) after → LoadsFront (name ∷ names) before after
+front_more name names before after loads = record {
+  front = name ∷ loads.front;
+  rest = loads.rest;
+  names_are = ap (λ others. name ∷ others) loads.names_are;
+  log = loads.log ∙ append_assoc before (found_load name ∷ []) (map found_load loads.front);
+}
 
--- what a load says of a folder that holds the same
-pub load_kept : (held kept : List ℕ → Option (List ℕ)) (name : List ℕ) (before after : List Loading) (result : Result (List ℕ) Stop) →
-    kept ≡ held → LoadsFile (kept name) name before after result → LoadsFile (held name) name before after result
-load_kept held kept name before after result same loads =
-    let P : (List ℕ → Option (List ℕ)) → Type 0 = λ h. LoadsFile (h name) name before after result in subst P same loads
+fails_more : (name other : List ℕ) (names : List (List ℕ)) (before after : List Loading) → FailsAt names other (before ++ found_load name ∷ []) after → FailsAt (name ∷ names) other before after
+fails_more name other names before after fails = record {
+  front = name ∷ fails.front;
+  rest = fails.rest;
+  names_are = ap (λ others. name ∷ others) fails.names_are;
+  log = fails.log ∙ append_assoc before (found_load name ∷ []) (map found_load fails.front ++ failed_load other ∷ []);
+}
 
--- what the same bytes say
-pub reads_same : (domain problem domain_bytes problem_bytes d p : List ℕ) (result : Result TypedTask Stop) →
-    d ≡ domain_bytes → p ≡ problem_bytes → ReadsTask domain problem d p result → ReadsTask domain problem domain_bytes problem_bytes result
-reads_same domain problem domain_bytes problem_bytes d p result first second says =
-    let P : List ℕ → Type 0 = λ x. ReadsTask domain problem x p result in
-    let Q : List ℕ → Type 0 = λ x. ReadsTask domain problem domain_bytes x result in
-    subst Q second (subst P first says)
+no_lost : (names front : List (List ℕ)) (name : List ℕ) → map found_load names ≡ map found_load front ++ failed_load name ∷ [] → ⊥
+no_lost [] [] name same = cc
+no_lost [] (x ∷ front) name same = cc
+no_lost (y ∷ names) [] name same =
+    let first : found_load y ≡ failed_load name = cc in false≢true (ap (λ (l : Loading). l.failed) first)
+no_lost (y ∷ names) (x ∷ front) name same =
+    let rest : map found_load names ≡ map found_load front ++ failed_load name ∷ [] = cc in no_lost names front name rest
 
--- Any number of files
+-- a log whose new loads all found their files has no failed last load
+found_not_failed : (names others : List (List ℕ)) (name : List ℕ) (before after : List Loading) → LoadsFront names before after → FailsAt others name before after → ⊥
+found_not_failed names others name before after loads fails =
+    no_lost loads.front fails.front name
+    (sym (front_rest after before (map found_load loads.front) loads.log) ∙ front_rest after before (map found_load fails.front ++ failed_load name ∷ []) fails.log)
 
--- the load of the first file stops the call
-pub stops_first : (held : List ℕ → Option (List ℕ)) (name : List ℕ) (names : List (List ℕ)) (before after : List Loading) (stop : Stop) →
-    LoadsFile (held name) name before after (Err stop) → (loads : List Loading) × (after ≡ before ++ loads) × StopsLoading held (name ∷ names) loads stop
-stops_first held name names before after stop load =
-    let at = stop_at held name before after stop load in
-    (at.0, at.1, inl at.2)
+-- Decisions
 
--- the first file was read, and a later load stops the call
-pub stops_later : (held : List ℕ → Option (List ℕ)) (name : List ℕ) (names : List (List ℕ)) (bytes : List ℕ) (before middle after : List Loading) (stop : Stop) →
-    Reads (held name) bytes → Notes name false before middle → ((rest : List Loading) × (after ≡ middle ++ rest) × StopsLoading held names rest stop) →
-    (loads : List Loading) × (after ≡ before ++ loads) × StopsLoading held (name ∷ names) loads stop
-stops_later held name names bytes before middle after stop read one later =
-    (found name ∷ later.0, grown_by before middle after later.0 (found name) one later.1, inr (bytes, later.0, read, refl, later.2))
+pub record IsFine (decision : Decision) : Type 0 where
+  pub most : decision.status ≤ 8
+  pub no_fault : decision.status ≢ 5
+  pub quiet : 2 ≤ decision.status → decision.status ≤ 4 → decision.out ≡ []
 
--- the loads are those of a front part of the names, and none but the last failed
-pub record InOrder (names : List (List ℕ)) (loads : List Loading) : Type 0 where
-  pub rest : List (List ℕ)
-  pub in_order : names ≡ map (λ load. load.name) loads ++ rest
-  pub going_on : OnlyLastFailed loads
+-- a decision that isn't made by a load that failed
+pub record IsDecided (decision : Decision) : Type 0 where
+  pub fine : IsFine decision
+  pub no_load : decision.status ≢ 4
 
-pub in_order_by : (names : List (List ℕ)) (loads these : List Loading) → loads ≡ these → InOrder names these → InOrder names loads
-in_order_by names loads these same of = subst (InOrder names) (sym same) of
+pub memory_decided : IsDecided out_of_memory
+memory_decided = record { fine = record { most = omega arith; no_fault = λ e. omega arith; quiet = λ low high. refl }; no_load = λ e. omega arith }
 
-only_rest : (name : List ℕ) (rest : List Loading) → OnlyLastFailed rest → OnlyLastFailed (found name ∷ rest)
-only_rest name [] going_on = tt
-only_rest name (load ∷ loads) going_on = (refl, going_on)
+pub refuses_decided : (text : List ℕ) → IsDecided (refuses text)
+refuses_decided text = record { fine = record { most = omega arith; no_fault = λ e. omega arith; quiet = λ low high. refl }; no_load = λ e. omega arith }
 
-found_first : (name : List ℕ) (names : List (List ℕ)) (rest : List Loading) → InOrder names rest → InOrder (name ∷ names) (found name ∷ rest)
-found_first name names rest order = record { rest = order.rest; in_order = ap (λ others. name ∷ others) order.in_order; going_on = only_rest name rest order.going_on }
+pub decided_as : (wanted decision : Decision) → IsDecided wanted → decision ≡ wanted → IsDecided decision
+decided_as wanted decision decided same = subst IsDecided (sym same) decided
 
-pub all_in_order : (names : List (List ℕ)) → InOrder names (map found names)
-all_in_order [] = record { rest = []; in_order = refl; going_on = tt }
-all_in_order (name ∷ names) = found_first name names (map found names) (all_in_order names)
+pub decided_unless : (wanted decision : Decision) → IsDecided wanted → IsUnlessMemory wanted decision → IsDecided decision
+decided_unless wanted decision decided (inl same) = decided_as wanted decision decided same
+decided_unless wanted decision decided (inr memory) = decided_as out_of_memory decision memory_decided memory
 
-at_in_order : (held : List ℕ → Option (List ℕ)) (name : List ℕ) (names : List (List ℕ)) (loads : List Loading) (stop : Stop) → StopsAt held name loads stop → InOrder (name ∷ names) loads
-at_in_order held name names loads (CannotRead n) at = in_order_by (name ∷ names) loads (lost name ∷ []) at.1 (record { rest = names; in_order = refl; going_on = tt })
-at_in_order held name names loads (TooLong n) at = in_order_by (name ∷ names) loads (found name ∷ []) at.1 (record { rest = names; in_order = refl; going_on = tt })
-at_in_order held name names loads OutOfMemory at = in_order_by (name ∷ names) loads [] at (record { rest = name ∷ names; in_order = refl; going_on = tt })
-at_in_order held name names loads (Refused n refusal) at = absurd at
-at_in_order held name names loads (PlanRefused n flaw line) at = absurd at
-at_in_order held name names loads NotBuilt at = absurd at
+fails_fine : (text : List ℕ) (decision : Decision) → IsUnlessMemory (stops 4 text) decision → IsFine decision
+fails_fine text decision (inl same) = subst IsFine (sym same) (record { most = omega arith; no_fault = λ e. omega arith; quiet = λ low high. refl })
+fails_fine text decision (inr memory) = (decided_as out_of_memory decision memory_decided memory).fine
 
-pub stop_in_order : (held : List ℕ → Option (List ℕ)) (names : List (List ℕ)) (loads : List Loading) (stop : Stop) → StopsLoading held names loads stop → InOrder names loads
-stop_in_order held [] loads stop stops = absurd stops
-stop_in_order held (name ∷ names) loads stop (inl at) = at_in_order held name names loads stop at
-stop_in_order held (name ∷ names) loads stop (inr (bytes, rest, read, noted, stops)) =
-    in_order_by (name ∷ names) loads (found name ∷ rest) noted (found_first name names rest (stop_in_order held names rest stop stops))
+-- the loads all found their files, or the last one failed and decides
+abbrev pub Logged : List (List ℕ) → (before after : List Loading) → Decision → Type 0
+Logged names before after decision =
+    (LoadsFront names before after × IsDecided decision)
+    ⊎ ((name : List ℕ) × FailsAt names name before after × IsUnlessMemory (stops 4 (unread_text name)) decision)
 
--- Read faults: the last load failed exactly where a file can't be read
+load_logged : (held : Option (List ℕ)) (name : List ℕ) (names : List (List ℕ)) (before after : List Loading) (decision : Decision) →
+    EndsLoad held name before after decision → Logged (name ∷ names) before after decision
+load_logged held name names before after decision (inl (same, memory)) =
+    inl (record { front = []; rest = name ∷ names; names_are = refl; log = same ∙ sym (append-nil before) }, decided_as out_of_memory decision memory_decided memory)
+load_logged held name names before after decision (inr (inl (noted, is))) =
+    inr (name, record { front = []; rest = names; names_are = refl; log = noted }, is)
+load_logged held name names before after decision (inr (inr (noted, long, is))) =
+    inl (record { front = name ∷ []; rest = names; names_are = refl; log = noted }, decided_unless (refuses (too_long_text name)) decision (refuses_decided (too_long_text name)) is)
 
-last_of_rest : (name : List ℕ) (rest : List Loading) → last_failed (found name ∷ rest) ≡ last_failed rest
-last_of_rest name [] = refl
-last_of_rest name (load ∷ loads) = refl
+logged_more : (name : List ℕ) (names : List (List ℕ)) (before after : List Loading) (decision : Decision) → Logged names (before ++ found_load name ∷ []) after decision →
+    Logged (name ∷ names) before after decision
+logged_more name names before after decision (inl (loads, decided)) = inl (front_more name names before after loads, decided)
+logged_more name names before after decision (inr (other, fails, is)) = inr (other, fails_more name other names before after fails, is)
 
-pub all_found : (names : List (List ℕ)) → last_failed (map found names) ≡ false
-all_found [] = refl
-all_found (name ∷ names) = last_of_rest name (map found names) ∙ all_found names
+ends_logged : (held : List ℕ → Option (List ℕ)) (names : List (List ℕ)) (before after : List Loading) (decision : Decision) → EndsLoads held names before after decision →
+    Logged names before after decision
+ends_logged held [] before after decision ends = absurd ends
+ends_logged held (name ∷ names) before after decision (inl ends) = load_logged (held name) name names before after decision ends
+ends_logged held (name ∷ names) before after decision (inr (bytes, reads, ends)) =
+    logged_more name names before after decision (ends_logged held names (before ++ found_load name ∷ []) after decision ends)
 
--- a load that found its file is not a failed one
-pub found_last : (loads these : List Loading) → loads ≡ these → last_failed these ≡ false → IsTrue (last_failed loads) → ⊥
-found_last loads these same none failed = false≢true (sym none ∙ subst (λ l. IsTrue (last_failed l)) same failed)
+pub then_logged : (held : List ℕ → Option (List ℕ)) (names : List (List ℕ)) (Decides : List (List ℕ) → Decision → Type 0) (before after : List Loading) (decision : Decision) →
+    ((sources : List (List ℕ)) → Decides sources decision → IsDecided decision) → LoadsThen held names Decides before after decision → Logged names before after decision
+then_logged held names Decides before after decision decided (inl ends) = ends_logged held names before after decision ends
+then_logged held names Decides before after decision decided (inr (sources, read, decides)) =
+    inl (record { front = names; rest = []; names_are = sym (append-nil names); log = read.log }, decided sources decides)
 
-at_failed : (held : List ℕ → Option (List ℕ)) (name : List ℕ) (loads : List Loading) (stop : Stop) → StopsAt held name loads stop → stop_status stop ≡ 4 → IsTrue (last_failed loads)
-at_failed held name loads (CannotRead n) at four = subst (λ l. IsTrue (last_failed l)) (sym at.1) refl
-at_failed held name loads (TooLong n) at four = absurd (omega arith)
-at_failed held name loads OutOfMemory at four = absurd (omega arith)
-at_failed held name loads (Refused n refusal) at four = absurd at
-at_failed held name loads (PlanRefused n flaw line) at four = absurd at
-at_failed held name loads NotBuilt at four = absurd at
+-- What every call keeps
 
-pub stop_failed : (held : List ℕ → Option (List ℕ)) (names : List (List ℕ)) (loads : List Loading) (stop : Stop) →
-    StopsLoading held names loads stop → stop_status stop ≡ 4 → IsTrue (last_failed loads)
-stop_failed held [] loads stop stops four = absurd stops
-stop_failed held (name ∷ names) loads stop (inl at) four = at_failed held name loads stop at four
-stop_failed held (name ∷ names) loads stop (inr (bytes, rest, read, noted, stops)) four =
-    subst (λ l. IsTrue (last_failed l)) (sym noted) (last_of_rest name rest ∙ stop_failed held names rest stop stops four)
+fine_of : (names : List (List ℕ)) (before after : List Loading) (decision : Decision) → Logged names before after decision → IsFine decision
+fine_of names before after decision (inl (loads, decided)) = decided.fine
+fine_of names before after decision (inr (name, fails, is)) = fails_fine (unread_text name) decision is
 
-at_four : (held : List ℕ → Option (List ℕ)) (name : List ℕ) (loads : List Loading) (stop : Stop) → StopsAt held name loads stop → IsTrue (last_failed loads) → stop_status stop ≡ 4
-at_four held name loads (CannotRead n) at failed = refl
-at_four held name loads (TooLong n) at failed = absurd (found_last loads (found name ∷ []) at.1 refl failed)
-at_four held name loads OutOfMemory at failed = absurd (found_last loads [] at refl failed)
-at_four held name loads (Refused n refusal) at failed = absurd at
-at_four held name loads (PlanRefused n flaw line) at failed = absurd at
-at_four held name loads NotBuilt at failed = absurd at
+loads_of : (names : List (List ℕ)) (call : Call) (decision : Decision) → Logged names call.log_before call.log_after decision →
+    LoadsFront names call.log_before call.log_after ⊎ LastLoadFails names call
+loads_of names call decision (inl (loads, decided)) = inl loads
+loads_of names call decision (inr (name, fails, is)) = inr (name, fails)
 
-pub stop_four : (held : List ℕ → Option (List ℕ)) (names : List (List ℕ)) (loads : List Loading) (stop : Stop) →
-    StopsLoading held names loads stop → IsTrue (last_failed loads) → stop_status stop ≡ 4
-stop_four held [] loads stop stops failed = absurd stops
-stop_four held (name ∷ names) loads stop (inl at) failed = at_four held name loads stop at failed
-stop_four held (name ∷ names) loads stop (inr (bytes, rest, read, noted, stops)) failed =
-    stop_four held names rest stop stops (sym (last_of_rest name rest) ∙ subst (λ l. IsTrue (last_failed l)) noted failed)
+unread_of : (names : List (List ℕ)) (call : Call) (decision : Decision) → Logged names call.log_before call.log_after decision → Concluded decision call 4 →
+    (name : List ℕ) × FailsAt names name call.log_before call.log_after × Says [] (unread_text name) call
+unread_of names call decision (inl (loads, decided)) concluded = absurd (decided.no_load concluded.decided)
+unread_of names call decision (inr (name, fails, inl is)) concluded = (name, fails, says_as decision (stops 4 (unread_text name)) call is concluded.said)
+unread_of names call decision (inr (name, fails, inr memory)) concluded = absurd (let e = status_as decision out_of_memory 4 memory concluded.decided in omega arith)
 
-says_rest : (name : List ℕ) (rest : List Loading) (before after : Option (List ℕ)) → SaysUnread rest before after → SaysUnread (found name ∷ rest) before after
-says_rest name [] before after says = absurd says
-says_rest name (load ∷ loads) before after says = says
+fault_of : (names : List (List ℕ)) (call : Call) (decision : Decision) → Logged names call.log_before call.log_after decision → IsUnlessFault decision.status call.status →
+    LastLoadFails names call → IsUnlessFault 4 call.status
+fault_of names call decision (inl (loads, decided)) is (name, fails) = absurd (found_not_failed names names name call.log_before call.log_after loads fails)
+fault_of names call decision (inr (name, fails, inl same)) is last = stands_as 4 decision.status call.status (ap (λ d. d.status) same) is
+fault_of names call decision (inr (name, fails, inr memory)) is last = memory_stands 4 decision.status call.status (ap (λ d. d.status) memory) is
 
-at_says : (held : List ℕ → Option (List ℕ)) (name : List ℕ) (loads : List Loading) (stop : Stop) (before after : Option (List ℕ)) →
-    StopsAt held name loads stop → stop_status stop ≡ 4 → Appends (stop_text stop) before after → SaysUnread loads before after
-at_says held name loads (CannotRead n) before after at four says =
-    subst (λ l. SaysUnread l before after) (sym at.1) (subst (λ m. Appends (unread_text m) before after) at.0 says)
-at_says held name loads (TooLong n) before after at four says = absurd (omega arith)
-at_says held name loads OutOfMemory before after at four says = absurd (omega arith)
-at_says held name loads (Refused n refusal) before after at four says = absurd at
-at_says held name loads (PlanRefused n flaw line) before after at four says = absurd at
-at_says held name loads NotBuilt before after at four says = absurd at
+quiet_of : (decision : Decision) (call : Call) → IsFine decision → Delivered decision call → 2 ≤ call.status → call.status ≤ 4 → call.out.after ≡ call.out.before
+quiet_of decision call fine delivers low high =
+    let at = concluded decision call call.status (λ e. omega arith) (λ e. omega arith) delivers refl in
+    let decided = at.decided in
+    wrote_empty decision.out call.out.before call.out.after (fine.quiet (omega arith) (omega arith)) at.said.on_out
 
--- and then it is the name that is written to err
-pub stop_says : (held : List ℕ → Option (List ℕ)) (names : List (List ℕ)) (loads : List Loading) (stop : Stop) (before after : Option (List ℕ)) →
-    StopsLoading held names loads stop → stop_status stop ≡ 4 → Appends (stop_text stop) before after → SaysUnread loads before after
-stop_says held [] loads stop before after stops four says = absurd stops
-stop_says held (name ∷ names) loads stop before after (inl at) four says = at_says held name loads stop before after at four says
-stop_says held (name ∷ names) loads stop before after (inr (bytes, rest, read, noted, stops)) four says =
-    subst (λ l. SaysUnread l before after) (sym noted) (says_rest name rest before after (stop_says held names rest stop before after stops four says))
+pub keeps : (names : List (List ℕ)) (call : Call) (decision : Decision) → Logged names call.log_before call.log_after decision → Delivered decision call → Keeps names call
+keeps names call decision logged delivers =
+    let fine = fine_of names call.log_before call.log_after decision logged in
+    record {
+      loads = loads_of names call decision logged;
+      unread = λ four. unread_of names call decision logged (concluded decision call 4 (λ e. omega arith) (λ e. omega arith) delivers four);
+      read_fault = fault_of names call decision logged (stands decision call delivers);
+      quiet = quiet_of decision call fine delivers;
+      write_fault = put_failed decision call fine.no_fault delivers;
+      fault_answered = rise_answered decision call delivers;
+      out_counted = delivers.out_counted;
+      err_counted = delivers.err_counted;
+      status = at_most decision.status call.status fine.most (stands decision call delivers);
+    }
+
+-- What the loads say where the folder tells the bytes
+
+told_is : (held : Option (List ℕ)) (bytes told : List ℕ) → Reads held bytes → held ≡ Some told → bytes ≡ told
+told_is held bytes told reads is = subst (λ h. IfSome h (λ t. bytes ≡ t)) is reads.told
+
+told_long : (held : Option (List ℕ)) (told : List ℕ) → IsTooLong held → held ≡ Some told → greatest_length < length told
+told_long held told long is = subst (λ h. IfSome h (λ bytes. greatest_length < length bytes)) is long
+
+told_fits : (held : Option (List ℕ)) (bytes told : List ℕ) → Reads held bytes → held ≡ Some told → length told ≤ greatest_length
+told_fits held bytes told reads is = subst (λ b. length b ≤ greatest_length) (told_is held bytes told reads is) reads.allowed
+
+abbrev pub AreReads : (List ℕ → Option (List ℕ)) → (names sources : List (List ℕ)) → Type 0
+AreReads held names sources = AllZip (λ name bytes. Reads (held name) bytes) names sources
+
+told_are : (held : List ℕ → Option (List ℕ)) (names read sources : List (List ℕ)) → AreReads held names read → Tells held names sources → read ≡ sources
+told_are held [] [] [] reads tells = refl
+told_are held [] [] (s ∷ sources) reads tells = absurd tells
+told_are held [] (r ∷ read) sources reads tells = absurd reads
+told_are held (name ∷ names) [] sources reads tells = absurd reads
+told_are held (name ∷ names) (r ∷ read) [] reads tells = absurd tells
+told_are held (name ∷ names) (r ∷ read) (s ∷ sources) reads tells =
+    let first : r ≡ s = told_is (held name) r s reads.0 tells.0 in
+    let others : read ≡ sources = told_are held names read sources reads.1 tells.1 in
+    cc
+
+pub reads_fit : (held : List ℕ → Option (List ℕ)) (names sources : List (List ℕ)) → AreReads held names sources → AllFit sources
+reads_fit held [] [] reads = tt
+reads_fit held [] (s ∷ sources) reads = absurd reads
+reads_fit held (name ∷ names) [] reads = absurd reads
+reads_fit held (name ∷ names) (s ∷ sources) reads = (reads.0.allowed, reads_fit held names sources reads.1)
+
+-- the ways in which the loads end a call, of files with these bytes
+abbrev pub ToldStops : (names sources : List (List ℕ)) → (before after : List Loading) → Decision → Type 0
+ToldStops names sources before after decision =
+    (decision ≡ out_of_memory)
+    ⊎ ((name : List ℕ) × FailsAt names name before after × (decision ≡ stops 4 (unread_text name)))
+    ⊎ ((text : List ℕ) × IsLengthRefusal names sources text × (decision ≡ refuses text))
+
+load_told : (held : Option (List ℕ)) (name told : List ℕ) (names sources : List (List ℕ)) (before after : List Loading) (decision : Decision) →
+    EndsLoad held name before after decision → held ≡ Some told → ToldStops (name ∷ names) (told ∷ sources) before after decision
+load_told held name told names sources before after decision (inl (same, memory)) is = inl memory
+load_told held name told names sources before after decision (inr (inl (noted, inl stopped))) is =
+    inr (inl (name, record { front = []; rest = names; names_are = refl; log = noted }, stopped))
+load_told held name told names sources before after decision (inr (inl (noted, inr memory))) is = inl memory
+load_told held name told names sources before after decision (inr (inr (noted, long, inl refused))) is =
+    inr (inr (too_long_text name, inl (told_long held told long is, refl), refused))
+load_told held name told names sources before after decision (inr (inr (noted, long, inr memory))) is = inl memory
+
+told_more : (name told : List ℕ) (names sources : List (List ℕ)) (before after : List Loading) (decision : Decision) → length told ≤ greatest_length →
+    ToldStops names sources (before ++ found_load name ∷ []) after decision → ToldStops (name ∷ names) (told ∷ sources) before after decision
+told_more name told names sources before after decision fits (inl memory) = inl memory
+told_more name told names sources before after decision fits (inr (inl (other, fails, is))) = inr (inl (other, fails_more name other names before after fails, is))
+told_more name told names sources before after decision fits (inr (inr (text, refusal, is))) = inr (inr (text, inr (fits, refusal), is))
+
+ends_told : (held : List ℕ → Option (List ℕ)) (names sources : List (List ℕ)) (before after : List Loading) (decision : Decision) →
+    EndsLoads held names before after decision → Tells held names sources → ToldStops names sources before after decision
+ends_told held [] sources before after decision ends tells = absurd ends
+ends_told held (name ∷ names) [] before after decision ends tells = absurd tells
+ends_told held (name ∷ names) (told ∷ sources) before after decision (inl ends) tells = load_told (held name) name told names sources before after decision ends tells.0
+ends_told held (name ∷ names) (told ∷ sources) before after decision (inr (bytes, reads, ends)) tells =
+    told_more name told names sources before after decision (told_fits (held name) bytes told reads tells.0)
+    (ends_told held names sources (before ++ found_load name ∷ []) after decision ends tells.1)
+
+-- and then the bytes decide
+pub then_told : (held : List ℕ → Option (List ℕ)) (names sources : List (List ℕ)) (Decides : List (List ℕ) → Decision → Type 0) (before after : List Loading) (decision : Decision) →
+    LoadsThen held names Decides before after decision → Tells held names sources →
+    ToldStops names sources before after decision ⊎ (AllFit sources × Decides sources decision)
+then_told held names sources Decides before after decision (inl ends) tells = inl (ends_told held names sources before after decision ends tells)
+then_told held names sources Decides before after decision (inr (read, are, decides)) tells =
+    let same : read ≡ sources = told_are held names read sources are.read tells in
+    inr (reads_fit held names sources (subst (AreReads held names) same are.read), subst (λ s. Decides s decision) same decides)
+
+-- Whatever the bytes
+
+-- the loads end a call with one of these statuses
+abbrev pub IsStopped : Decision → Type 0
+IsStopped decision = (decision.status ≡ 3) ⊎ (decision.status ≡ 4) ⊎ (decision.status ≡ 8)
+
+load_stopped : (held : Option (List ℕ)) (name : List ℕ) (before after : List Loading) (decision : Decision) → EndsLoad held name before after decision → IsStopped decision
+load_stopped held name before after decision (inl (same, memory)) = inr (inr (ap (λ d. d.status) memory))
+load_stopped held name before after decision (inr (inl (noted, inl is))) = inr (inl (ap (λ d. d.status) is))
+load_stopped held name before after decision (inr (inl (noted, inr memory))) = inr (inr (ap (λ d. d.status) memory))
+load_stopped held name before after decision (inr (inr (noted, long, inl is))) = inl (ap (λ d. d.status) is)
+load_stopped held name before after decision (inr (inr (noted, long, inr memory))) = inr (inr (ap (λ d. d.status) memory))
+
+pub ends_stopped : (held : List ℕ → Option (List ℕ)) (names : List (List ℕ)) (before after : List Loading) (decision : Decision) → EndsLoads held names before after decision →
+    IsStopped decision
+ends_stopped held [] before after decision ends = absurd ends
+ends_stopped held (name ∷ names) before after decision (inl ends) = load_stopped (held name) name before after decision ends
+ends_stopped held (name ∷ names) before after decision (inr (bytes, reads, ends)) = ends_stopped held names (before ++ found_load name ∷ []) after decision ends
+
+-- Lengths
+
+pub length_refused : (names sources : List (List ℕ)) (text : List ℕ) → IsLengthRefusal names sources text → SomeIsTooLong sources
+length_refused [] sources text refusal = absurd refusal
+length_refused (name ∷ names) [] text refusal = absurd refusal
+length_refused (name ∷ names) (s ∷ sources) text (inl (long, is)) = inl long
+length_refused (name ∷ names) (s ∷ sources) text (inr (fits, refusal)) = inr (length_refused names sources text refusal)
+
+pub long_does_not_fit : (sources : List (List ℕ)) → SomeIsTooLong sources → AllFit sources → ⊥
+long_does_not_fit [] long fit = long
+long_does_not_fit (s ∷ sources) (inl long) fit = let fits : length s ≤ greatest_length = fit.0 in omega arith
+long_does_not_fit (s ∷ sources) (inr long) fit = long_does_not_fit sources long fit.1
+
+-- Histories
+
+pub stops_no_history : (held : List ℕ → Option (List ℕ)) (names : List (List ℕ)) (before after : List Loading) (decision : Decision) → EndsLoads held names before after decision →
+    decision.history ≡ no_history
+stops_no_history held [] before after decision ends = absurd ends
+stops_no_history held (name ∷ names) before after decision (inl ends) = by ends
+  where
+    by : EndsLoad (held name) name before after decision → decision.history ≡ no_history
+    by (inl (same, memory)) = ap (λ e. e.history) memory
+    by (inr (inl (noted, inl is))) = ap (λ e. e.history) is
+    by (inr (inl (noted, inr memory))) = ap (λ e. e.history) memory
+    by (inr (inr (noted, long, inl is))) = ap (λ e. e.history) is
+    by (inr (inr (noted, long, inr memory))) = ap (λ e. e.history) memory
+stops_no_history held (name ∷ names) before after decision (inr (bytes, reads, ends)) = stops_no_history held names (before ++ found_load name ∷ []) after decision ends

@@ -1,4 +1,4 @@
--- The search takes a task of two files exactly where it is plain.
+-- The search takes a resolved task exactly where it is plain.
 use Rattle.std.proofs.Common.{◌≡◌, ◌↔◌, ℕ, ◌≤◌, Bool, true, Option, Some, None, List, [], ◌∷◌, map, length, slice_get, option_map, All, refl, sym, ap, ◌∙◌, subst}
 use Rattle.std.proofs.lemmas.Bool.{and_parts, false≢true}
 use Rattle.std.proofs.lemmas.List.Elements.{All-head}
@@ -20,11 +20,9 @@ use Rattle.mf_model.specs.declared.task.Term.{Term}
 use Rattle.mf_model.specs.declared.task.Term.TheVariants.{Variable, Object}
 use Rattle.mf_model.specs.declared.task.TypedTask.{TypedTask}
 use Rattle.mf_model.specs.declared.task.Valued.{Valued}
-use Rattle.mf_types.specs.Limits.{HaveFewParameters}
-use Rattle.mf_types.specs.Valid.{Counts, counts_of, parameter_count, is_valid_term, are_valid_terms, is_valid_use, cond_step, is_valid_cond, effect_step, is_valid_effect, are_objects, is_valid_atom, is_valid_value, IsValidAction, IsValidTask}
-use Rattle.mf_input.specs.Files.{IsTaskOfFiles}
-use Rattle.mf_input.proofs.RoomTask.{files_fit}
-use Rattle.mf_input.proofs.ValidFiles.{files_valid}
+use Rattle.mf_model.specs.ResolvedTask.{IsResolvedTask}
+use Rattle.mf_model.specs.TaskLimits.{HaveFewParameters}
+use Rattle.mf_model.specs.ValidTasks.{Counts, counts_of, parameter_count, is_valid_term, are_valid_terms, is_valid_use, cond_step, is_valid_cond, effect_step, is_valid_effect, are_objects, is_valid_atom, is_valid_value, IsValidAction, IsValidTask}
 use Rattle.mf_plain.specs.Changes.{changes_step, only_changes_atoms}
 use Rattle.mf_plain.specs.Conjunctions.{conjunction_step, is_conjunction}
 use Rattle.mf_plain.specs.PlainTask.{IsPlainAction, IsPlainTask}
@@ -167,6 +165,5 @@ searched_is_plain task searched = record {
   metric = searched.metric;
 }
 
-pub plain_where_searched : (domain problem : List ℕ) (task : TypedTask) → IsTaskOfFiles domain problem task → (IsPlainTask task ↔ IsSearchTask task)
-plain_where_searched domain problem task is =
-    (plain_is_searched task (files_valid domain problem task is) (files_fit domain problem task is).parameters, searched_is_plain task)
+pub plain_where_searched : (task : TypedTask) → IsResolvedTask task → (IsPlainTask task ↔ IsSearchTask task)
+plain_where_searched task resolved = (plain_is_searched task resolved.valid resolved.limits.parameters, searched_is_plain task)

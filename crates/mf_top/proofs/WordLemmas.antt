@@ -3,7 +3,7 @@ use Rattle.std.proofs.Common.{◌≡◌, ℕ, suc, ◌+◌, ◌-◌, ◌*◌, �
 use Rattle.std.specs.Char.{is_ascii_digit}
 use Rattle.mf_top.specs.Words.{in_range, number_after, greatest_budget, budget_of}
 
--- digits behind a number that is too large give none in the range
+-- digits after a number that is too large give none in the range
 pub in_range-large : (n : ℕ) (bs : List ℕ) → greatest_budget < n → in_range (number_after n bs) ≡ None
 in_range-large n [] large = grind arith
 in_range-large n (b ∷ bs) large =

@@ -1,20 +1,23 @@
--- The loads of a call.
-use Rattle.std.specs.Prelude.{◌≡◌, ℕ, ◌<◌, ◌≤◌, ◌⊎◌, true, false, Option, Result, Ok, Err, List, [], ◌∷◌, map, length, IfSome}
+-- The loads of a call: its files are loaded in the order of the words, up to one whose load ends the call.
+use Rattle.std.specs.Prelude.{◌≡◌, ℕ, ◌<◌, ◌≤◌, ◌⊎◌, true, false, Option, Result, Ok, Err, List, [], ◌∷◌, ◌++◌, map, length, IfSome, Some}
 use Rattle.std.specs.List.{AllZip}
 use Rattle.mf_io.specs.declared.folder.Loading.{Loading}
 use Rattle.mf_io.specs.Folder.{Notes}
-use Rattle.mf_top.specs.declared.outcome.Stop.{Stop}
-use Rattle.mf_top.specs.declared.outcome.Stop.TheVariants.{CannotRead, TooLong, Refused, PlanRefused, NotBuilt, OutOfMemory}
+use Rattle.mf_top.specs.declared.decision.Decision.{Decision}
+use Rattle.mf_top.specs.declared.load.Two.{Two}
+use Rattle.mf_top.specs.declared.load.Three.{Three}
+use Rattle.mf_top.specs.Decision.{stops, refuses, out_of_memory, IsUnlessMemory}
+use Rattle.mf_top.specs.Texts.{unread_text, too_long_text}
 
 -- the most bytes that a file may have
 abbrev pub greatest_length : ℕ
 greatest_length = 16777216
 
-abbrev pub found : List ℕ → Loading
-found name = record { name = name; failed = false }
+abbrev pub found_load : List ℕ → Loading
+found_load name = record { name = name; failed = false }
 
-abbrev pub lost : List ℕ → Loading
-lost name = record { name = name; failed = true }
+abbrev pub failed_load : List ℕ → Loading
+failed_load name = record { name = name; failed = true }
 
 -- the bytes are those that the folder holds, if it tells them, and no more than allowed
 pub record Reads (held : Option (List ℕ)) (bytes : List ℕ) : Type 0 where
@@ -25,34 +28,66 @@ pub record Reads (held : Option (List ℕ)) (bytes : List ℕ) : Type 0 where
 abbrev pub IsTooLong : Option (List ℕ) → Type 0
 IsTooLong held = IfSome held (λ bytes. greatest_length < length bytes)
 
--- What the load of one file gives: its bytes; or that it cannot be read, where the load failed; or that it is too
--- long. Where memory is wanting nothing is noted.
-abbrev pub LoadsFile : Option (List ℕ) → List ℕ → List Loading → List Loading → Result (List ℕ) Stop → Type 0
-LoadsFile held name before after (Ok bytes) = Reads held bytes × Notes name false before after
-LoadsFile held name before after (Err (CannotRead n)) = (n ≡ name) × Notes name true before after
-LoadsFile held name before after (Err (TooLong n)) = (n ≡ name) × IsTooLong held × Notes name false before after
-LoadsFile held name before after (Err OutOfMemory) = after ≡ before
-LoadsFile held name before after (Err (Refused n refusal)) = ⊥
-LoadsFile held name before after (Err (PlanRefused n flaw line)) = ⊥
-LoadsFile held name before after (Err NotBuilt) = ⊥
+-- the load of this file ends the call: memory ran out, or the load failed, or the file is too long
+abbrev pub EndsLoad : Option (List ℕ) → List ℕ → (before after : List Loading) → Decision → Type 0
+EndsLoad held name before after decision =
+    ((after ≡ before) × (decision ≡ out_of_memory))
+    ⊎ (Notes name true before after × IsUnlessMemory (stops 4 (unread_text name)) decision)
+    ⊎ (Notes name false before after × IsTooLong held × IsUnlessMemory (refuses (too_long_text name)) decision)
+
+-- the step: the bytes of the file
+abbrev pub LoadsFile : Option (List ℕ) → List ℕ → (before after : List Loading) → Result (List ℕ) Decision → Type 0
+LoadsFile held name before after (Ok bytes) = Notes name false before after × Reads held bytes
+LoadsFile held name before after (Err decision) = EndsLoad held name before after decision
 
 -- the files of these names were loaded, in their order, and these are their bytes
-pub record AreRead (held : List ℕ → Option (List ℕ)) (names : List (List ℕ)) (loads : List Loading) (sources : List (List ℕ)) : Type 0 where
-  pub noted : loads ≡ map found names
+pub record AreRead (held : List ℕ → Option (List ℕ)) (names : List (List ℕ)) (before after : List Loading) (sources : List (List ℕ)) : Type 0 where
+  pub log : after ≡ before ++ map found_load names
   pub read : AllZip (λ name bytes. Reads (held name) bytes) names sources
 
--- the load of the next file stops the call
-abbrev pub StopsAt : (List ℕ → Option (List ℕ)) → List ℕ → List Loading → Stop → Type 0
-StopsAt held name loads (CannotRead n) = (n ≡ name) × (loads ≡ lost name ∷ [])
-StopsAt held name loads (TooLong n) = (n ≡ name) × (loads ≡ found name ∷ []) × IsTooLong (held name)
-StopsAt held name loads OutOfMemory = loads ≡ []
-StopsAt held name loads (Refused n refusal) = ⊥
-StopsAt held name loads (PlanRefused n flaw line) = ⊥
-StopsAt held name loads NotBuilt = ⊥
+-- the files of these names are loaded, in their order, up to one whose load ends the call
+abbrev pub EndsLoads : (List ℕ → Option (List ℕ)) → List (List ℕ) → (before after : List Loading) → Decision → Type 0
+EndsLoads held [] before after decision = ⊥
+EndsLoads held (name ∷ names) before after decision =
+    EndsLoad (held name) name before after decision
+    ⊎ ((bytes : List ℕ) × Reads (held name) bytes × EndsLoads held names (before ++ found_load name ∷ []) after decision)
 
--- the files of these names are loaded, in their order, up to one whose load stops the call
-abbrev pub StopsLoading : (List ℕ → Option (List ℕ)) → List (List ℕ) → List Loading → Stop → Type 0
-StopsLoading held [] loads stop = ⊥
-StopsLoading held (name ∷ names) loads stop =
-    StopsAt held name loads stop
-    ⊎ ((bytes : List ℕ) × (rest : List Loading) × Reads (held name) bytes × (loads ≡ found name ∷ rest) × StopsLoading held names rest stop)
+-- the step: the bytes of two files, and of three
+abbrev pub LoadsTwo : (List ℕ → Option (List ℕ)) → (domain problem : List ℕ) → (before after : List Loading) → Result Two Decision → Type 0
+LoadsTwo held domain problem before after (Ok two) = AreRead held (domain ∷ problem ∷ []) before after (two.domain ∷ two.problem ∷ [])
+LoadsTwo held domain problem before after (Err decision) = EndsLoads held (domain ∷ problem ∷ []) before after decision
+
+abbrev pub LoadsThree : (List ℕ → Option (List ℕ)) → (domain problem third : List ℕ) → (before after : List Loading) → Result Three Decision → Type 0
+LoadsThree held domain problem third before after (Ok three) =
+    AreRead held (domain ∷ problem ∷ third ∷ []) before after (three.domain ∷ three.problem ∷ three.third ∷ [])
+LoadsThree held domain problem third before after (Err decision) = EndsLoads held (domain ∷ problem ∷ third ∷ []) before after decision
+
+-- The files of these names are loaded, and then their bytes decide.
+abbrev pub LoadsThen : (List ℕ → Option (List ℕ)) → List (List ℕ) → (List (List ℕ) → Decision → Type 0) → (before after : List Loading) → Decision → Type 0
+LoadsThen held names Decides before after decision =
+    EndsLoads held names before after decision
+    ⊎ ((sources : List (List ℕ)) × AreRead held names before after sources × Decides sources decision)
+
+-- What the bytes say that the folder tells
+
+-- the folder tells that the files of these names have these bytes
+abbrev pub Tells : (List ℕ → Option (List ℕ)) → (names sources : List (List ℕ)) → Type 0
+Tells held names sources = AllZip (λ name bytes. held name ≡ Some bytes) names sources
+
+-- no file is longer than allowed
+abbrev pub AllFit : List (List ℕ) → Type 0
+AllFit [] = Unit {0}
+AllFit (bytes ∷ sources) = (length bytes ≤ greatest_length) × AllFit sources
+
+-- a file is longer than allowed
+abbrev pub SomeIsTooLong : List (List ℕ) → Type 0
+SomeIsTooLong [] = ⊥
+SomeIsTooLong (bytes ∷ sources) = (greatest_length < length bytes) ⊎ SomeIsTooLong sources
+
+-- this text refuses the first file that is longer than allowed
+abbrev pub IsLengthRefusal : (names sources : List (List ℕ)) → List ℕ → Type 0
+IsLengthRefusal [] sources text = ⊥
+IsLengthRefusal (name ∷ names) [] text = ⊥
+IsLengthRefusal (name ∷ names) (bytes ∷ sources) text =
+    ((greatest_length < length bytes) × (text ≡ too_long_text name))
+    ⊎ ((length bytes ≤ greatest_length) × IsLengthRefusal names sources text)

@@ -1,11 +1,13 @@
 -- What the words of a call ask for: `validate DOMAIN PROBLEM PLAN`, or `plan DOMAIN PROBLEM`, with `--budget N` where it is wanted, and `--heuristic goals`,
 -- in this order and as separate words.
-use Rattle.std.specs.Prelude.{ℕ, ◌+◌, ◌-◌, ◌*◌, ◌≤◌, Bool, ◌&&◌, if◌then◌else◌, nat_le, List, [], ◌∷◌, length, Option, Some, None, codes, bytes_eq}
+use Rattle.std.specs.Prelude.{◌≡◌, ◌⊎◌, Result, Ok, Err, ℕ, ◌+◌, ◌-◌, ◌*◌, ◌≤◌, Bool, ◌&&◌, if◌then◌else◌, nat_le, List, [], ◌∷◌, length, Option, Some, None, codes, bytes_eq}
 use Rattle.std.specs.Char.{is_ascii_digit}
 use Rattle.std.specs.Option.{option_map}
 use Rattle.std.specs.Str.{IsUtf8}
+use Rattle.mf_top.specs.declared.decision.Decision.{Decision}
 use Rattle.mf_top.specs.declared.request.Request.{Request}
 use Rattle.mf_top.specs.declared.request.Request.TheVariants.{Plan, Validate}
+use Rattle.mf_top.specs.Decision.{stops, out_of_memory, IsUnlessMemory}
 
 abbrev pub default_budget : ℕ
 default_budget = 1000000
@@ -17,7 +19,7 @@ abbrev pub in_range : Option ℕ → Option ℕ
 in_range None = None
 in_range (Some n) = if nat_le 1 n && nat_le n greatest_budget then Some n else None
 
--- the number of the decimal digits, behind digits that are worth n; nothing where a byte is no digit
+-- the number of the decimal digits, after digits that are worth n; nothing where a byte is no digit
 abbrev pub number_after : ℕ → List ℕ → Option ℕ
 number_after n [] = Some n
 number_after n (b ∷ bs) = if is_ascii_digit b then number_after (10 * n + (b - 48)) bs else None
@@ -76,3 +78,11 @@ AsksPlan (Validate domain problem plan) = ⊥
 abbrev pub AsksJudgement : Request → Type 0
 AsksJudgement (Validate domain problem plan) = Unit {0}
 AsksJudgement (Plan domain problem budget) = ⊥
+
+abbrev pub words_refused : Decision
+words_refused = stops 2 (codes "words refused\n")
+
+-- the step: the request of the words, or their refusal
+abbrev pub ReadsWords : List (List ℕ) → Result Request Decision → Type 0
+ReadsWords words (Ok request) = (request_of words ≡ Some request) × IsRequest request
+ReadsWords words (Err decision) = (decision ≡ out_of_memory) ⊎ ((request_of words ≡ None) × IsUnlessMemory words_refused decision)

@@ -1,7 +1,6 @@
 ghost use Rattle.std.specs.Prelude.{◌≡◌};
-ghost use Rattle.mf_top.specs.Texts.{flaw_text, kind_text};
+ghost use Rattle.mf_top.specs.Texts.{kind_text};
 
-use crate::PlanFlaw;
 use mf_input::RefusalKind;
 
 /// The words for what is wrong with a file.
@@ -24,16 +23,5 @@ pub(crate) fn kind_text(kind: RefusalKind) -> &'static [u8]
         RefusalKind::TooMany => b"too many",
         RefusalKind::WideNumber => b"wide number",
         RefusalKind::NotLinear => b"not linear",
-    }
-}
-
-/// The words for what is wrong with a plan file.
-pub(crate) fn flaw_text(flaw: PlanFlaw) -> &'static [u8]
-    ensures { result.now ≡ flaw_text flaw }
-{
-    match flaw {
-        PlanFlaw::BadLine => b"bad line",
-        PlanFlaw::UnknownAction => b"unknown action",
-        PlanFlaw::WrongArguments => b"wrong arguments",
     }
 }

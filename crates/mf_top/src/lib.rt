@@ -2,23 +2,26 @@
 #![tactic(auto)]
 
 mod command;
-mod decide;
+mod decision;
 mod deliver;
-mod judging;
 mod kinds;
 mod laws;
 mod load;
-mod outcome;
-mod reading;
+mod plan;
 mod request;
+mod search;
+mod task;
 #[cfg(test)]
 mod tests;
 mod texts;
+mod validation;
 mod verdicts;
 mod words;
 
-pub use command::{Ended, plan_one, run, validate};
+pub use command::run;
+pub use deliver::Ended;
 pub use laws::plain_tasks_are_searched;
 pub use load::GREATEST_LENGTH;
-pub use outcome::{Answer, Judgement, Outcome, PlanFlaw, Stop};
+pub use plan::plan_one;
 pub use request::Request;
+pub use validation::validate;

@@ -82,6 +82,24 @@ fn takes(ended: &Ended) -> usize {
         .count()
 }
 
+// Whether the states of numbers 0 to 4 were taken, in this order, and the last one ended the search.
+fn takes_the_first_five(ended: &Ended) -> bool {
+    matches!(
+        ended.history.entries.as_slice(),
+        [
+            Entry::Take { state: 0, .. },
+            Entry::Done { .. },
+            Entry::Take { state: 1, .. },
+            Entry::Done { .. },
+            Entry::Take { state: 2, .. },
+            Entry::Done { .. },
+            Entry::Take { state: 3, .. },
+            Entry::Done { .. },
+            Entry::Take { state: 4, .. }
+        ]
+    )
+}
+
 // The words of a plan, with a budget where one is given.
 fn words(alloc: Global, budget: Option<&str>) -> Result<Vec<String>, Fail> {
     let mut words = Vec::new(alloc);
@@ -162,10 +180,11 @@ fn refuses(alloc: Global, domain: Text, line: &[u8]) -> Result<bool, Fail> {
 #[test]
 fn the_ball_is_brought_to_the_other_room(rt: HostRuntime) -> Result<(), Fail> {
     let alloc = rt.alloc();
-    let domain = text(alloc, ROOMS)?;
     let problem = rooms(alloc, "(at ball1 roomb)")?;
+    let called = planned(alloc, text(alloc, ROOMS)?, problem, None)?;
     let plan = b"(pick ball1 rooma)\n(move rooma roomb)\n(drop ball1 roomb)\n; steps 3\n";
-    assert!(rt; answers(alloc, domain, problem, None, 0, plan, b"")?);
+    assert!(rt; wrote(&called, 0, plan, b""));
+    assert!(rt; takes_the_first_five(&called.ended));
     Ok(())
 }
 

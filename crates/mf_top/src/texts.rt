@@ -1,11 +1,9 @@
-ghost use Rattle.std.specs.Prelude.{◌≡◌, ◌++◌, OnOk, IfOk, codes};
+ghost use Rattle.std.specs.Prelude.{◌≡◌, ◌++◌, OnOk, IfOk};
 ghost use Rattle.std.specs.List.{flat_map};
 ghost use Rattle.std.specs.Fmt.{decimal};
-ghost use Rattle.mf_top.specs.Texts.{action_name, object_name, object_text, step_text, plan_text, answer_text, refusal_text, plan_refusal_text, stop_text, out_text, err_text};
+ghost use Rattle.mf_top.specs.Texts.{action_name, object_name, object_text, step_text, plan_text, budget_text, place_text, refusal_text, unread_text, too_long_text};
 
-use crate::kinds::{flaw_text, kind_text};
-use crate::verdicts::judgement_text;
-use crate::{Answer, Outcome, PlanFlaw, Stop};
+use crate::kinds::kind_text;
 use mf_input::Refusal;
 use mf_io::Memory;
 use mf_model::{Action, Instance, Object, Text, TypedTask};
@@ -85,8 +83,8 @@ pub(crate) fn plan_text(alloc: Global, task: &TypedTask, steps: &[Instance]) -> 
     Ok(text)
 }
 
-fn budget_text(alloc: Global, expansions: u64) -> Result<Text, Memory>
-    ensures { IfOk result (λ text. text ≡ codes "budget reached after " ++ decimal expansions ++ codes " expansions\n") }
+pub(crate) fn budget_text(alloc: Global, expansions: u64) -> Result<Text, Memory>
+    ensures { IfOk result (λ text. text ≡ budget_text expansions) }
 {
     let mut text = Text::from_slice(alloc, b"budget reached after ")?;
     write_number(alloc, expansions, &mut text)?;
@@ -94,33 +92,27 @@ fn budget_text(alloc: Global, expansions: u64) -> Result<Text, Memory>
     Ok(text)
 }
 
-// The file, the place and the kind of a refusal.
-fn refusal_text(alloc: Global, name: &[u8], refusal: &Refusal) -> Result<Text, Memory>
+/// A line `NAME:AT: KIND`, for a place in a file.
+pub(crate) fn place_text(alloc: Global, name: &[u8], at: u32, kind: &[u8]) -> Result<Text, Memory>
+    ensures { IfOk result (λ text. text ≡ place_text name.now at kind.now) }
+{
+    let mut text = Text::from_slice(alloc, name)?;
+    text.push(b':')?;
+    write_number(alloc, u64::from(at), &mut text)?;
+    text.extend(b": ")?;
+    text.extend(kind)?;
+    text.push(b'\n')?;
+    Ok(text)
+}
+
+/// The place and the kind of a refusal of the file of this name.
+pub(crate) fn refusal_text(alloc: Global, name: &[u8], refusal: &Refusal) -> Result<Text, Memory>
     ensures { IfOk result (λ text. text ≡ refusal_text name.now refusal.now) }
 {
-    let mut text = Text::from_slice(alloc, name)?;
-    text.push(b':')?;
-    write_number(alloc, u64::from(refusal.at), &mut text)?;
-    text.extend(b": ")?;
-    text.extend(kind_text(refusal.kind))?;
-    text.push(b'\n')?;
-    Ok(text)
+    place_text(alloc, name, refusal.at, kind_text(refusal.kind))
 }
 
-// The file, the line and the flaw of a plan that is refused.
-fn plan_refusal_text(alloc: Global, name: &[u8], flaw: PlanFlaw, line: u32) -> Result<Text, Memory>
-    ensures { IfOk result (λ text. text ≡ plan_refusal_text name.now flaw line) }
-{
-    let mut text = Text::from_slice(alloc, name)?;
-    text.push(b':')?;
-    write_number(alloc, u64::from(line), &mut text)?;
-    text.extend(b": ")?;
-    text.extend(flaw_text(flaw))?;
-    text.push(b'\n')?;
-    Ok(text)
-}
-
-fn joined(alloc: Global, first: &[u8], second: &[u8], third: &[u8]) -> Result<Text, Memory>
+fn join(alloc: Global, first: &[u8], second: &[u8], third: &[u8]) -> Result<Text, Memory>
     ensures { IfOk result (λ text. text ≡ first.now ++ second.now ++ third.now) }
 {
     let mut text = Text::from_slice(alloc, first)?;
@@ -129,56 +121,14 @@ fn joined(alloc: Global, first: &[u8], second: &[u8], third: &[u8]) -> Result<Te
     Ok(text)
 }
 
-// What an answer writes to out.
-fn answer_text(alloc: Global, answer: &Answer) -> Result<Text, Memory>
-    ensures { IfOk result (λ text. text ≡ answer_text answer.now) }
+pub(crate) fn unread_text(alloc: Global, name: &[u8]) -> Result<Text, Memory>
+    ensures { IfOk result (λ text. text ≡ unread_text name.now) }
 {
-    match answer {
-        Answer::PlanFound { text } => Ok(text.copy(alloc)?),
-        Answer::NoPlan => Ok(Text::from_slice(alloc, b"no plan\n")?),
-        Answer::BudgetReached { expansions } => budget_text(alloc, *expansions),
-    }
+    join(alloc, b"cannot read ", name, b"\n")
 }
 
-/// What an outcome writes to out.
-pub(crate) fn out_text(alloc: Global, outcome: &Outcome) -> Result<Text, Memory>
-    ensures { IfOk result (λ text. text ≡ out_text outcome.now) }
+pub(crate) fn too_long_text(alloc: Global, name: &[u8]) -> Result<Text, Memory>
+    ensures { IfOk result (λ text. text ≡ too_long_text name.now) }
 {
-    match outcome {
-        Outcome::Answered { answer } => answer_text(alloc, answer),
-        Outcome::Judged { judgement } => judgement_text(alloc, judgement),
-        Outcome::WordsRefused | Outcome::Stopped { .. } => Ok(Text::new(alloc)),
-    }
-}
-
-// What a stop writes to err.
-fn stop_text(alloc: Global, stop: &Stop) -> Result<Text, Memory>
-    ensures { IfOk result (λ text. text ≡ stop_text stop.now) }
-{
-    match stop {
-        Stop::CannotRead { name } => joined(alloc, b"cannot read ", name.as_slice(), b"\n"),
-        Stop::TooLong { name } => joined(
-            alloc,
-            b"",
-            name.as_slice(),
-            b": longer than 16777216 bytes\n",
-        ),
-        Stop::Refused { name, refusal } => refusal_text(alloc, name.as_slice(), refusal),
-        Stop::PlanRefused { name, flaw, line } => {
-            plan_refusal_text(alloc, name.as_slice(), *flaw, *line)
-        }
-        Stop::NotBuilt => Ok(Text::from_slice(alloc, b"task: not built\n")?),
-        Stop::OutOfMemory => Ok(Text::new(alloc)),
-    }
-}
-
-/// What an outcome writes to err.
-pub(crate) fn err_text(alloc: Global, outcome: &Outcome) -> Result<Text, Memory>
-    ensures { IfOk result (λ text. text ≡ err_text outcome.now) }
-{
-    match outcome {
-        Outcome::WordsRefused => Ok(Text::from_slice(alloc, b"words refused\n")?),
-        Outcome::Stopped { stop } => stop_text(alloc, stop),
-        Outcome::Answered { .. } | Outcome::Judged { .. } => Ok(Text::new(alloc)),
-    }
+    join(alloc, b"", name, b": longer than 16777216 bytes\n")
 }

@@ -1,9 +1,8 @@
 ghost use Rattle.std.specs.Prelude.{◌≡◌, ◌++◌, IfOk, OnOk, codes};
 ghost use Rattle.std.specs.Fmt.{decimal};
 ghost use Rattle.mf_fraction.specs.Text.{text_of};
-ghost use Rattle.mf_top.specs.Texts.{valid_text, verdict_text, judgement_text};
+ghost use Rattle.mf_top.specs.Texts.{valid_text, verdict_text, wide_text};
 
-use crate::Judgement;
 use crate::texts::write_number;
 use mf_fraction::Frac;
 use mf_io::Memory;
@@ -50,7 +49,8 @@ fn step_text(alloc: Global, front: &[u8], step: u32, back: &[u8]) -> Result<Text
     Ok(text)
 }
 
-fn verdict_text(alloc: Global, verdict: &Verdict) -> Result<Text, Memory>
+/// What is written of a verdict.
+pub(crate) fn verdict_text(alloc: Global, verdict: &Verdict) -> Result<Text, Memory>
     ensures { IfOk result (λ text. text ≡ verdict_text verdict.now) }
 {
     match verdict {
@@ -60,12 +60,9 @@ fn verdict_text(alloc: Global, verdict: &Verdict) -> Result<Text, Memory>
     }
 }
 
-/// What a judgement writes to out.
-pub(crate) fn judgement_text(alloc: Global, judgement: &Judgement) -> Result<Text, Memory>
-    ensures { IfOk result (λ text. text ≡ judgement_text judgement.now) }
+/// What is written of a value that does not fit at this step, or after the last one.
+pub(crate) fn wide_text(alloc: Global, step: u32) -> Result<Text, Memory>
+    ensures { IfOk result (λ text. text ≡ wide_text step) }
 {
-    match judgement {
-        Judgement::Said { verdict } => verdict_text(alloc, verdict),
-        Judgement::TooWide { step } => step_text(alloc, b"width: step ", *step, b"\n"),
-    }
+    step_text(alloc, b"width: step ", step, b"\n")
 }

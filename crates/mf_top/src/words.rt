@@ -1,8 +1,10 @@
 ghost use Rattle.std.specs.Prelude.{◌≡◌, ◌≤◌, map, IfOk, IfSome, string_bytes};
 ghost use Rattle.mf_top.specs.declared.request.Request.TheVariants.{Plan, Validate};
-ghost use Rattle.mf_top.specs.Words.{budget_of, plan_request, validate_request, request_of, asks_goals, greatest_budget, IsRequest};
+ghost use Rattle.mf_top.specs.Decision.{IsUnlessMemory};
+ghost use Rattle.mf_top.specs.Words.{budget_of, plan_request, validate_request, request_of, asks_goals, greatest_budget, words_refused, ReadsWords, IsRequest};
 
 use crate::Request;
+use crate::decision::Decision;
 use mf_model::Text;
 use std::alloc::{AllocError, Global};
 
@@ -109,12 +111,32 @@ fn read_validate_words(alloc: Global, words: &[String]) -> Result<Option<Request
 }
 
 // What the words ask for, if they keep the rule.
-pub(crate) fn read_words(alloc: Global, words: &[String]) -> Result<Option<Request>, AllocError>
+fn request_in(alloc: Global, words: &[String]) -> Result<Option<Request>, AllocError>
     ensures value { IfOk result (λ request. request ≡ request_of (map string_bytes words.now)) }
     ensures valid { IfOk result (λ request. IfSome request IsRequest) }
 {
     match read_validate_words(alloc, words)? {
         Some(request) => Ok(Some(request)),
         None => read_plan_words(alloc, words),
+    }
+}
+
+fn refuse_words(alloc: Global) -> Decision
+    ensures { IsUnlessMemory words_refused result }
+{
+    match Text::from_slice(alloc, b"words refused\n") {
+        Ok(text) => Decision::stops(alloc, 2, text),
+        Err(_) => Decision::out_of_memory(alloc),
+    }
+}
+
+/// Reads the words.
+pub(crate) fn read_words(alloc: Global, words: &[String]) -> Result<Request, Decision>
+    ensures { ReadsWords (map string_bytes words.now) result }
+{
+    match request_in(alloc, words) {
+        Ok(Some(request)) => Ok(request),
+        Ok(None) => Err(refuse_words(alloc)),
+        Err(_) => Err(Decision::out_of_memory(alloc)),
     }
 }

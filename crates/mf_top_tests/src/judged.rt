@@ -58,7 +58,9 @@ fn burning(alloc: Global, domain: &str, plan: &str, status: u8, line: &[u8]) -> 
 fn a_third_of_the_fuel_is_burnt_thrice(rt: HostRuntime) -> Result<(), Fail> {
     let alloc = rt.alloc();
     let thrice = "(burn)\n(burn)\n(burn)\n";
+    let unended = "(burn)\n(burn)\n(burn)";
     assert!(rt; burning(alloc, tasks::BURN_AT_LEAST, thrice, 0, b"valid\n")?);
+    assert!(rt; burning(alloc, tasks::BURN_AT_LEAST, unended, 0, b"valid\n")?);
     assert!(rt;
         burning(
             alloc,
