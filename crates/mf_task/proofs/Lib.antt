@@ -1,0 +1,6 @@
+pub mod Closing
+mod FormExamples
+mod WidthExamples
+mod ClosureExamples
+mod LayerExamples
+mod PlanExamples

@@ -1,0 +1,15 @@
+pub mod CaseRows
+pub mod GroundMeaning
+pub mod Grounding
+pub mod HeuristicValues
+pub mod Layers
+pub mod LimitClosure
+pub mod LinearForms
+pub mod NoCase
+pub mod RelaxedPlan
+pub mod RowStates
+pub mod Rows
+pub mod SameStates
+pub mod Successors
+pub mod WideForms
+pub mod Width
