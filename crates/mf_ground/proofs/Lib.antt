@@ -1,0 +1,11 @@
+mod ActionLaw
+mod Examples
+mod Tallies
+mod Ways
+mod Fronts
+mod Keys
+mod LiveWalk
+mod Members
+mod Saturation
+mod StartFacts
+mod StaticPredicates

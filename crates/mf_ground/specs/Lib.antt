@@ -1,0 +1,9 @@
+pub mod Counted
+pub mod Courses
+pub mod Kinds
+pub mod Nodes
+pub mod Outcome
+pub mod Saturated
+pub mod Statics
+pub mod Surveyed
+pub mod Walks
