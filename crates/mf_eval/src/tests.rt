@@ -150,16 +150,21 @@ fn the_start_is_in_order(rt: HostRuntime) -> Result<(), Fail> {
     Ok(())
 }
 
+// The state after `go` from the first place to the second.
+fn after_go(alloc: Global, task: &TypedTask, state: &PlainState) -> Result<PlainState, Fail>
+    requires { task.now.objects ≡ [] }
+{
+    let scene = Scene { task, state };
+    let go = go(alloc)?;
+    Ok(apply_action(alloc, &scene, &go, &[0, 1])?)
+}
+
 #[test]
 fn an_action_makes_a_state(rt: HostRuntime) -> Result<(), Fail> {
     let alloc = rt.alloc();
     let task = task(alloc)?;
     let state = state(alloc, 0, 2)?;
-    let scene = Scene {
-        task: &task,
-        state: &state,
-    };
-    let next = apply_action(alloc, &scene, &go(alloc)?, &[0, 1])?;
+    let next = after_go(alloc, &task, &state)?;
     assert!(rt; next == moved_state(alloc)?);
     Ok(())
 }
