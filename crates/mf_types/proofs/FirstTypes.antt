@@ -119,11 +119,14 @@ is_first types (first ∷ items) zero item within is none =
     let same : bytes_eq first.word.text name ≡ true = (bytes_eq-Decides first.word.text name).1 (ap (λ (i : Typed). i.word.text) (sym is)) in
     ap (λ (b : Bool). if b then item_types types first else first_types types items name) same
     ∙ ap (item_types types) (sym is)
-is_first types (first ∷ items) (suc n) item within is none = by (bytes_eq first.word.text item.word.text) refl none
+is_first types (first ∷ items) (suc n) item within is none =
+    by (bytes_eq first.word.text item.word.text) none (λ before. is_first types items n item (omega (arith, within)) is before)
   where
-    by : (b : Bool) → bytes_eq first.word.text item.word.text ≡ b → (b || is_member (take n (typed_names items)) item.word.text) ≡ false → (if b then item_types types first else first_types types items item.word.text) ≡ item_types types item
-    by true e none = let no : ⊥ = cc in absurd no
-    by false e none = is_first types items n item (omega (arith, within)) is none
+    by : (b : Bool) → (b || is_member (take n (typed_names items)) item.word.text) ≡ false
+        → (is_member (take n (typed_names items)) item.word.text ≡ false → first_types types items item.word.text ≡ item_types types item)
+        → (if b then item_types types first else first_types types items item.word.text) ≡ item_types types item
+    by true none rest = let no : ⊥ = cc in absurd no
+    by false none rest = rest none
 
 chosen_types : (b : Bool) (found own first : List ℕ) → (b ≡ false → found ≡ own) → types_else (if b then Some found else None) own ≡ found
 chosen_types true found own first h = refl

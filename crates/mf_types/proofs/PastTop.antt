@@ -28,31 +28,33 @@ upward_more parents m (suc n) t u next more apart is =
 
 or_itself : (b c : Bool) → (c ≡ true → b ≡ true) → (b || c) ≡ (b || false)
 or_itself true c h = refl
-or_itself false true h = h refl
+or_itself false true h = sym (h refl)
 or_itself false false h = refl
 
 -- from the top the way leads nowhere else
 at_top : (parents : List ℕ) (n t u : ℕ) → parent_at parents 0 ≡ 0 → t ≡ 0 → member u (upward parents n t) ≡ true → nat_eq u t ≡ true
 at_top parents zero t u top is e = let no : ⊥ = cc in absurd no
-at_top parents (suc n) t u top is e = by (nat_eq u t) refl e
+at_top parents (suc n) t u top is e =
+    let back : parent_at parents t ≡ 0 = ap (parent_at parents) is ∙ top in
+    by (nat_eq u t) refl e (λ there. ap (nat_eq u) (is ∙ sym back) ∙ at_top parents n (parent_at parents t) u top back there)
   where
-    by : (b : Bool) → nat_eq u t ≡ b → (b || member u (upward parents n (parent_at parents t))) ≡ true → b ≡ true
-    by true same e = refl
-    by false other e =
-        let back : parent_at parents t ≡ 0 = ap (parent_at parents) is ∙ top in
-        sym other ∙ (ap (nat_eq u) (is ∙ sym back) ∙ at_top parents n (parent_at parents t) u top back e)
+    by : (b : Bool) → nat_eq u t ≡ b → (b || member u (upward parents n (parent_at parents t))) ≡ true
+        → (member u (upward parents n (parent_at parents t)) ≡ true → nat_eq u t ≡ true) → b ≡ true
+    by true same e rest = refl
+    by false other e rest = sym other ∙ rest e
 
 same_types : (parents : List ℕ) → parent_at parents 0 ≡ 0 → (n t u : ℕ) → member u (upward parents n t) ≡ member u (ancestors parents n t)
 same_types parents top zero t u = refl
-same_types parents top (suc n) t u = by (nat_eq t 0) refl
+same_types parents top (suc n) t u = by (nat_eq t 0) refl (same_types parents top n (parent_at parents t) u)
   where
-    by : (b : Bool) → nat_eq t 0 ≡ b → (nat_eq u t || member u (upward parents n (parent_at parents t))) ≡ (nat_eq u t || member u (if b then [] else ancestors parents n (parent_at parents t)))
-    by true e =
+    by : (b : Bool) → nat_eq t 0 ≡ b → member u (upward parents n (parent_at parents t)) ≡ member u (ancestors parents n (parent_at parents t))
+        → (nat_eq u t || member u (upward parents n (parent_at parents t))) ≡ (nat_eq u t || member u (if b then [] else ancestors parents n (parent_at parents t)))
+    by true e rest =
         let is = (Decides-eqb t 0).0 e in
         let back : parent_at parents t ≡ 0 = ap (parent_at parents) is ∙ top in
         or_itself (nat_eq u t) (member u (upward parents n (parent_at parents t)))
         (λ there. ap (nat_eq u) (is ∙ sym back) ∙ at_top parents n (parent_at parents t) u top back there)
-    by false e = ap (λ (b : Bool). nat_eq u t || b) (same_types parents top n (parent_at parents t) u)
+    by false e rest = ap (λ (b : Bool). nat_eq u t || b) rest
 
 both_ways : (parents : List ℕ) → parent_at parents 0 ≡ 0 → (t u : ℕ) → below.is_related parents t u ≡ is_related parents t u
 both_ways parents top t u =

@@ -109,7 +109,6 @@ impl Scope {
 }
 
 /// Puts the variables of a list inside those in scope.
-#[tactic(auto, using(crate::proofs::FirstTypes::variable_more))]
 pub(crate) fn enter(
     alloc: Global,
     tables: &Tables,
