@@ -4,3 +4,4 @@ mod WidthExamples
 mod ClosureExamples
 mod LayerExamples
 mod PlanExamples
+mod ActionExamples

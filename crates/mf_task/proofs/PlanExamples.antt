@@ -11,7 +11,7 @@ use Rattle.mf_task.specs.declared.ground.GroundCond.TheVariants as node
 use Rattle.mf_task.specs.declared.ground.GroundCond.TheOpen.{GroundCond-F}
 use Rattle.mf_task.specs.declared.ground.GroundChange.TheVariants as change
 use Rattle.mf_task.specs.Layers.{Finite, FiringEffect, Layer, Zero, AtLeast, has_range}
-use Rattle.mf_task.specs.RelaxedPlan.{AtomNeed, FormNeed, LayerNeed, Relaxation, Relaxed, Requirement, Service, Serving, Step, at_layer, effect_fits, form_need, form_service, is_counted_part, needs_of_effect, plan_length, relaxed_from, require_step, required, rest_needs, served, take_term, with_assign}
+use Rattle.mf_task.specs.RelaxedPlan.{AtomNeed, FormNeed, LayerNeed, Relaxation, Relaxed, Requirement, Service, Serving, Step, at_layer, at_this_layer, effect_fits, form_need, form_service, helpful_from, is_counted_part, needs_of_effect, plan_length, relaxed_from, require_step, required, rest_needs, served, take_term, with_assign}
 use Rattle.mf_task.proofs.LayerExamples.{count, fires, layer_0, layer_1, layer_2, rising, sight}
 
 abbrev form : Number → Number → Form
@@ -142,3 +142,17 @@ increase_fits = refl
 decrease_does_not : effect_fits relaxation falling (FormNeed false two_less) ≡ false
 unfolding fits sum_of difference_of product_of negative_of reduce gcd order_of is_below
 decrease_does_not = refl
+
+-- of the needs n - 2 >= 0 of layer 2 and n - 1 >= 0 of layer 1 the second one counts
+counted_needs : at_this_layer 1 (needed 2 two_less ∷ needed 1 one_less ∷ []) ≡ needed 1 one_less ∷ []
+counted_needs = refl
+
+-- the instance that adds 1 is helpful
+helpful_is_inc : helpful_from relaxation (needed 1 one_less ∷ []) 0 count.actions ≡ 0 ∷ []
+unfolding fits sum_of difference_of product_of negative_of reduce gcd order_of is_below
+helpful_is_inc = search (rules, the_lemmas)
+
+-- where nothing is needed none is
+none_is_helpful : helpful_from relaxation [] 0 count.actions ≡ []
+unfolding fits sum_of difference_of product_of negative_of reduce gcd order_of is_below
+none_is_helpful = search (rules, the_lemmas)
