@@ -5,3 +5,4 @@ mod ClosureExamples
 mod LayerExamples
 mod PlanExamples
 mod ActionExamples
+mod GroundExamples
