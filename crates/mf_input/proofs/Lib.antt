@@ -1,3 +1,5 @@
+pub mod DecimalWords
+pub mod DigitWords
 pub mod FileLemmas
 pub mod FlatForms
 pub mod NameLemmas
