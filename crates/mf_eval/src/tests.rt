@@ -35,20 +35,27 @@ fn valued(alloc: Global, function: u16, objects: &[u16], value: i64) -> Result<V
     })
 }
 
+fn atoms(alloc: Global, listed: &[(u16, &[u16])]) -> Result<List<Atom>, Fail> {
+    let mut atoms = List::new(alloc);
+    for (predicate, objects) in listed {
+        atoms.push(atom(alloc, *predicate, objects)?)?;
+    }
+    Ok(atoms)
+}
+
+fn values(alloc: Global, listed: &[(u16, &[u16], i64)]) -> Result<List<Valued>, Fail> {
+    let mut values = List::new(alloc);
+    for (function, objects, value) in listed {
+        values.push(valued(alloc, *function, objects, *value)?)?;
+    }
+    Ok(values)
+}
+
 // The state with this place and this fuel.
 fn state(alloc: Global, place: u16, fuel: i64) -> Result<PlainState, Fail> {
-    Ok(PlainState {
-        atoms: List::from_vec(vec![in alloc;
-            atom(alloc, 0, &[0, 1])?,
-            atom(alloc, 0, &[1, 0])?,
-            atom(alloc, 1, &[place])?,
-        ]?),
-        values: List::from_vec(vec![in alloc;
-            valued(alloc, 0, &[], fuel)?,
-            valued(alloc, 1, &[0], 3)?,
-            valued(alloc, 1, &[1], 7)?,
-        ]?),
-    })
+    let atoms = atoms(alloc, &[(0, &[0, 1]), (0, &[1, 0]), (1, &[place])])?;
+    let values = values(alloc, &[(0, &[], fuel), (1, &[0], 3), (1, &[1], 7)])?;
+    Ok(PlainState { atoms, values })
 }
 
 // The state of the other place, with 1 less of the fuel.
@@ -116,28 +123,28 @@ fn one<T: Drop>(alloc: Global, item: T) -> Result<List<T>, Fail>
 }
 
 // The atoms and values of a start are in no order, and one atom is there twice.
+fn start(alloc: Global) -> Result<PlainState, Fail> {
+    let atoms = atoms(alloc, &[(1, &[0]), (0, &[1, 0]), (1, &[0]), (0, &[0, 1])])?;
+    let values = values(alloc, &[(1, &[1], 7), (1, &[0], 3), (0, &[], 2)])?;
+    Ok(PlainState { atoms, values })
+}
+
 fn task(alloc: Global) -> Result<TypedTask, Fail>
     ensures objects { IfOk result (λ task. task.objects ≡ []) }
     ensures goal { IfOk result (λ task. scope_of task.goal ≡ 0) }
 {
+    let goal = some_fuel(alloc)?;
+    let actions = one(alloc, go(alloc)?)?;
+    let PlainState { atoms, values } = start(alloc)?;
     Ok(TypedTask {
         types: List::new(alloc),
         objects: List::new(alloc),
         predicates: List::new(alloc),
         functions: List::new(alloc),
-        actions: one(alloc, go(alloc)?)?,
-        atoms: List::from_vec(vec![in alloc;
-            atom(alloc, 1, &[0])?,
-            atom(alloc, 0, &[1, 0])?,
-            atom(alloc, 1, &[0])?,
-            atom(alloc, 0, &[0, 1])?,
-        ]?),
-        values: List::from_vec(vec![in alloc;
-            valued(alloc, 1, &[1], 7)?,
-            valued(alloc, 1, &[0], 3)?,
-            valued(alloc, 0, &[], 2)?,
-        ]?),
-        goal: some_fuel(alloc)?,
+        actions,
+        atoms,
+        values,
+        goal,
         metric: None,
     })
 }
