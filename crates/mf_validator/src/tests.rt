@@ -2,10 +2,7 @@ ghost use Rattle.std.specs.Prelude.{◌≡◌, ◌≤◌, [], ◌∷◌, IfOk, l
 
 use crate::PlanFault;
 use crate::reading::read_text;
-use mf_model::{
-    Action, Atom, Cond, Effect, Expr, List, Metric, Object, SharedList, Symbol, Term, Text,
-    TypeName, TypedTask, Types,
-};
+use mf_model::{Action, Cond, Effect, List, Object, SharedList, Term, Text, TypedTask, Types};
 use std::alloc::Global;
 use std::test::Fail;
 
@@ -35,28 +32,27 @@ fn place(alloc: Global) -> Result<Types, Fail> {
     Ok(SharedList::from_list(List::from_slice(alloc, &[1])?)?)
 }
 
-fn at(alloc: Global, place: Term) -> Result<Cond, Fail> {
-    Ok(Cond::Atom {
-        predicate: 0,
-        terms: one(alloc, place)?,
-    })
-}
-
-fn arrive(alloc: Global) -> Result<Effect, Fail> {
-    Ok(Effect::Add {
-        predicate: 0,
-        terms: one(alloc, Term::Variable(1))?,
-    })
-}
-
-// `go ?from ?to`: from a place to another.
+// `go ?from ?to`: from a place to another. Reading a plan asks neither for its condition nor for its effect.
 fn go(alloc: Global) -> Result<Action, Fail> {
+    let name = text(alloc, "go")?;
+    let parameters = two(alloc, place(alloc)?, place(alloc)?)?;
     Ok(Action {
-        name: text(alloc, "go")?,
-        parameters: two(alloc, place(alloc)?, place(alloc)?)?,
-        condition: at(alloc, Term::Variable(0))?,
-        effect: arrive(alloc)?,
+        name,
+        parameters,
+        condition: nothing(),
+        effect: Effect::Add {
+            predicate: 0,
+            terms: List::new(alloc),
+        },
     })
+}
+
+// It always holds.
+fn nothing() -> Cond {
+    Cond::Same {
+        left: Term::Object(0),
+        right: Term::Object(0),
+    }
 }
 
 fn object(alloc: Global, name: &str) -> Result<Object, Fail> {
@@ -66,47 +62,23 @@ fn object(alloc: Global, name: &str) -> Result<Object, Fail> {
     })
 }
 
-fn type_name(alloc: Global, name: &str) -> Result<TypeName, Fail> {
-    Ok(TypeName {
-        name: text(alloc, name)?,
-        parent: 0,
-    })
-}
-
-// Two places, of which one is to be reached in few steps.
+// Two places and `go`. What reading a plan does not ask for is left out.
 fn task(alloc: Global) -> Result<TypedTask, Fail>
     ensures actions { IfOk result (λ task. length task.actions ≡ 1) }
     ensures objects { IfOk result (λ task. length task.objects ≡ 2) }
 {
+    let objects = two(alloc, object(alloc, "a")?, object(alloc, "b")?)?;
+    let actions = one(alloc, go(alloc)?)?;
     Ok(TypedTask {
-        types: two(
-            alloc,
-            type_name(alloc, "object")?,
-            type_name(alloc, "place")?,
-        )?,
-        objects: two(alloc, object(alloc, "a")?, object(alloc, "b")?)?,
-        predicates: one(
-            alloc,
-            Symbol {
-                name: text(alloc, "at")?,
-                parameters: one(alloc, place(alloc)?)?,
-            },
-        )?,
+        types: List::new(alloc),
+        objects,
+        predicates: List::new(alloc),
         functions: List::new(alloc),
-        actions: one(alloc, go(alloc)?)?,
-        atoms: one(
-            alloc,
-            Atom {
-                predicate: 0,
-                objects: List::from_slice(alloc, &[0])?,
-            },
-        )?,
+        actions,
+        atoms: List::new(alloc),
         values: List::new(alloc),
-        goal: at(alloc, Term::Object(1))?,
-        metric: Some(Metric {
-            least: true,
-            value: Expr::TotalTime,
-        }),
+        goal: nothing(),
+        metric: None,
     })
 }
 
