@@ -2,7 +2,10 @@ ghost use Rattle.std.specs.Prelude.{◌≡◌, ◌≤◌, [], ◌∷◌, IfOk, l
 
 use crate::PlanFault;
 use crate::reading::read_text;
-use mf_model::{Action, Cond, Effect, List, Object, SharedList, Term, Text, TypedTask, Types};
+use mf_model::{
+    Action, Cond, Effect, List, Object, SharedList, Term, Text, TypeName, TypedTask,
+    Types,
+};
 use std::alloc::Global;
 use std::test::Fail;
 
@@ -62,15 +65,27 @@ fn object(alloc: Global, name: &str) -> Result<Object, Fail> {
     })
 }
 
+fn type_name(alloc: Global, name: &str) -> Result<TypeName, Fail> {
+    Ok(TypeName {
+        name: text(alloc, name)?,
+        parent: 0,
+    })
+}
+
 // Two places and `go`. What reading a plan does not ask for is left out.
 fn task(alloc: Global) -> Result<TypedTask, Fail>
     ensures actions { IfOk result (λ task. length task.actions ≡ 1) }
     ensures objects { IfOk result (λ task. length task.objects ≡ 2) }
 {
+    let types = two(
+        alloc,
+        type_name(alloc, "object")?,
+        type_name(alloc, "place")?,
+    )?;
     let objects = two(alloc, object(alloc, "a")?, object(alloc, "b")?)?;
     let actions = one(alloc, go(alloc)?)?;
     Ok(TypedTask {
-        types: List::new(alloc),
+        types,
         objects,
         predicates: List::new(alloc),
         functions: List::new(alloc),
