@@ -3,8 +3,7 @@ ghost use Rattle.std.specs.Prelude.{◌≡◌, ◌≤◌, [], ◌∷◌, IfOk, l
 use crate::PlanFault;
 use crate::reading::read_text;
 use mf_model::{
-    Action, Cond, Effect, List, Object, SharedList, Term, Text, TypeName, TypedTask,
-    Types,
+    Action, Cond, Effect, List, Object, SharedList, Term, Text, TypeName, TypedTask, Types,
 };
 use std::alloc::Global;
 use std::test::Fail;
