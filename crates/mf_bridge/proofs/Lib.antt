@@ -1,0 +1,4 @@
+pub mod ListTests
+pub mod ListedCells
+pub mod FluentAtoms
+pub mod CoveredTerms
