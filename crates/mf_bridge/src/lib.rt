@@ -3,8 +3,10 @@
 #![tactic(auto)]
 
 mod coverage;
+mod rows;
 
 pub use coverage::{atoms_and_terms_are_sorted, atoms_cover, terms_cover};
+pub use rows::{rows_show_their_states, rows_stand_for_search_states};
 
 #[cfg(test)]
 mod tests;
