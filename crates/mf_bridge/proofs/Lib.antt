@@ -5,3 +5,6 @@ pub mod CoveredTerms
 pub mod ShownLists
 pub mod StateLookups
 pub mod RowSights
+pub mod RowBits
+pub mod DistinctRows
+pub mod StartRows
