@@ -8,3 +8,6 @@ pub mod RowSights
 pub mod RowBits
 pub mod DistinctRows
 pub mod StartRows
+pub mod MatchedChanges
+pub mod NumberedChanges
+pub mod NextStates
