@@ -1,0 +1,13 @@
+pub mod ListTests
+pub mod ListedCells
+pub mod FluentAtoms
+pub mod CoveredTerms
+pub mod ShownLists
+pub mod StateLookups
+pub mod RowSights
+pub mod RowBits
+pub mod DistinctRows
+pub mod StartRows
+pub mod MatchedChanges
+pub mod NumberedChanges
+pub mod NextStates
