@@ -1,6 +1,6 @@
 -- The value of an expression is that of its form.
 use Rattle.std.proofs.Common.{◌≡◌, ℕ, pos, Bool, true, false, not, ◌&&◌, ◌||◌, nat_eq, List, [], ◌∷◌, map, Option, refl, sym, subst, ap, ◌∙◌}
-use Rattle.std.specs.Prelude.{nat_lt, unsigned_abs}
+use Rattle.std.specs.Prelude.{nat_lt, unsigned_abs, IfSome}
 use Rattle.std.specs.List.{list_all, list_any}
 use Rattle.std.proofs.lemmas.Bool.{and_parts, eq-eqb, eqb-true, false≢true, ltb-true}
 use Rattle.mf_fraction.specs.Exact.{Number, Proper, whole, fits}
@@ -25,6 +25,7 @@ use Rattle.mf_task.specs.Rows.{Sight}
 use Rattle.mf_bridge.specs.Readable.{IsReadable}
 use Rattle.mf_bridge.specs.Shows.{Shows}
 use Rattle.mf_bridge.proofs.Numbers.{compared-difference}
+use Rattle.mf_bridge.proofs.Weights.{IsLowestForm}
 use Rattle.mf_bridge.proofs.FormLaws.{Tells, product_degree-assoc, product_degree-constant, sum_degree-assoc, sum_degree-constant, tells_difference, tells_lowest, tells_negative, tells_number, tells_product, tells_quotient, tells_start, tells_sum, tells_term, within_product, within_quotient, within_sum, constant_within}
 
 stored_is_proper : (a : Number) → is_stored a ≡ true → Proper a
@@ -208,3 +209,9 @@ module _ (numbering : Numbering) (look : Look) (sight : Sight) (shows : Shows nu
       let at_right = expression_tells right q b in
       let both = tells_difference sight.value shows.sight_lowest (degree_of constant left) (degree_of constant right) _ _ _ _ at_left at_right in
       compared-difference r (value_of look left b) (value_of look right b) (tells_lowest sight.value shows.sight_lowest _ _ _ at_left) (tells_lowest sight.value shows.sight_lowest _ _ _ at_right) ∙ ap (truth_at r) both.is
+
+  pub compared_form_lowest : (left right : Expr) (b : List ℕ) → IsReadable numbering.task left → IsReadable numbering.task right → IfSome (compared_form (functions_in numbering) left right b) IsLowestForm
+  compared_form_lowest left right b p q =
+      let at_left = expression_tells left p b in
+      let at_right = expression_tells right q b in
+      (tells_difference sight.value shows.sight_lowest (degree_of constant left) (degree_of constant right) _ _ _ _ at_left at_right).low

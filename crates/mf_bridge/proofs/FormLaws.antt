@@ -219,7 +219,7 @@ module _ (value : ℕ → Option Number) (lowest : (term : ℕ) → IsLowest (va
   -- products and quotients
 
   -- the value of a form without parts
-  constant_value : (a : Form) → IsLowestForm a → a.parts ≡ [] → form_value value a ≡ Some a.constant
+  pub constant_value : (a : Form) → IsLowestForm a → a.parts ≡ [] → form_value value a ≡ Some a.constant
   constant_value a p e = ap (λ ps. plus (Some a.constant) (weight value ps)) e ∙ plus_zero (Some a.constant) p.constant
 
   product-tells : (d e : Degree) (a b : Form) → Tells d (Some a) (form_value value a) → Tells e (Some b) (form_value value b) → (a.parts ≡ []) ⊎ (b.parts ≡ []) →

@@ -2,3 +2,10 @@ pub mod Numbers
 pub mod Weights
 pub mod FormLaws
 pub mod Expressions
+pub mod GroundTruth
+pub mod ListedForms
+pub mod GroundConditions
+pub mod GoalConjuncts
+pub mod ActionsMade
+pub mod ResolvedTasks
+pub mod ConditionLaws

@@ -1,2 +1,4 @@
 pub mod Shows
 pub mod Readable
+pub mod UnlistedAtoms
+pub mod ListedForms

@@ -1,7 +1,9 @@
--- Expressions whose values forms tell.
+-- Expressions whose values forms tell, and conditions of such expressions.
 use Rattle.std.specs.Prelude.{◌≡◌, ℕ, true}
 use Rattle.mf_model.specs.declared.task.Expr.{Expr}
+use Rattle.mf_model.specs.declared.task.Cond.{Cond}
 use Rattle.mf_model.specs.declared.task.TypedTask.{TypedTask}
+use Rattle.mf_model.specs.Expressions.{every_side}
 use Rattle.mf_model.specs.Functions.{avoids, is_constant, is_cost}
 use Rattle.mf_model.specs.Linearity.{is_linear}
 use Rattle.mf_model.specs.ResolvedTask.{has_stored_numbers}
@@ -11,3 +13,9 @@ pub record IsReadable (task : TypedTask) (expression : Expr) : Type 0 where
   pub linear : is_linear (is_constant task) expression ≡ true
   pub numbers : has_stored_numbers expression ≡ true
   pub costless : (function : ℕ) → is_cost task function ≡ true → avoids function expression ≡ true
+
+-- both sides of each comparison are so
+pub record IsReadableCondition (task : TypedTask) (condition : Cond) : Type 0 where
+  pub linear : every_side (is_linear (is_constant task)) condition ≡ true
+  pub numbers : every_side has_stored_numbers condition ≡ true
+  pub costless : (function : ℕ) → is_cost task function ≡ true → every_side (avoids function) condition ≡ true

@@ -2,6 +2,11 @@
 //! with an empty body, and holds of every resolved task.
 #![tactic(auto)]
 
+mod conditions;
 mod forms;
 
+pub use conditions::{
+    actions_are_live_instances, conditions_are_ground_conditions, forms_are_listed,
+    goals_are_ground_goals, preconditions_are_ground_conditions,
+};
 pub use forms::{comparisons_are_signs_of_differences, forms_have_the_values_of_expressions};
