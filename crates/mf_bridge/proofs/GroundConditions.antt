@@ -44,7 +44,7 @@ pub data Test (task : TypedTask) : Type 0 where
   Numbers : Test task
   Costless : (function : ℕ) → is_cost task function ≡ true → Test task
 
-pub passes : (task : TypedTask) → Test task → Expr → Bool
+unfoldable pub passes : (task : TypedTask) → Test task → Expr → Bool
 passes task Linear e = is_linear (is_constant task) e
 passes task Numbers e = has_stored_numbers e
 passes task (Costless function cost) e = avoids function e

@@ -9,3 +9,5 @@ pub mod GoalConjuncts
 pub mod ActionsMade
 pub mod ResolvedTasks
 pub mod ConditionLaws
+pub mod FiredDeeds
+pub mod EffectLaws

@@ -11,7 +11,7 @@ use Rattle.mf_model.specs.Functions.{is_constant}
 use Rattle.mf_model.specs.Linearity.{is_linear, is_linear_change}
 use Rattle.mf_model.specs.ResolvedTask.{IsResolvedTask, has_stored_numbers}
 use Rattle.mf_meaning.proofs.ActionsOf.{action_is_free, all_at, goal_is_free}
-use Rattle.mf_bridge.specs.Readable.{IsReadableCondition}
+use Rattle.mf_bridge.specs.Readable.{IsReadableCondition, IsReadableEffect}
 use Rattle.mf_bridge.proofs.ActionsMade.{at_found}
 
 module _ (task : TypedTask) (resolved : IsResolvedTask task) where
@@ -33,4 +33,11 @@ module _ (task : TypedTask) (resolved : IsResolvedTask task) where
       linear = (and_parts (every_side (is_linear (is_constant task)) action.condition) (every_change (is_linear_change (is_constant task)) (every_side (is_linear (is_constant task))) action.effect) both_linear).0;
       numbers = at_found (λ action. IsTrue (every_side has_stored_numbers action.condition)) task.actions n action (recursion_from_All (λ action. IsTrue (every_side has_stored_numbers action.condition)) task.actions resolved.numbers.conditions) found;
       costless = (action_is_free task n action found).condition;
+    }
+
+    pub effect_readable : IsReadableEffect task action.effect
+    effect_readable = record {
+      linear = (and_parts (every_side (is_linear (is_constant task)) action.condition) (every_change (is_linear_change (is_constant task)) (every_side (is_linear (is_constant task))) action.effect) both_linear).1;
+      numbers = at_found (λ action. IsTrue (every_change (λ op function value. has_stored_numbers value) (every_side has_stored_numbers) action.effect)) task.actions n action (recursion_from_All (λ action. IsTrue (every_change (λ op function value. has_stored_numbers value) (every_side has_stored_numbers) action.effect)) task.actions resolved.numbers.effects) found;
+      costless = (action_is_free task n action found).effect;
     }

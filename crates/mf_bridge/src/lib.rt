@@ -3,10 +3,12 @@
 #![tactic(auto)]
 
 mod conditions;
+mod effects;
 mod forms;
 
 pub use conditions::{
     actions_are_live_instances, conditions_are_ground_conditions, forms_are_listed,
     goals_are_ground_goals, preconditions_are_ground_conditions,
 };
+pub use effects::{actions_fire_alike, effects_fire_alike};
 pub use forms::{comparisons_are_signs_of_differences, forms_have_the_values_of_expressions};
