@@ -11,3 +11,9 @@ pub mod ResolvedTasks
 pub mod ConditionLaws
 pub mod FiredDeeds
 pub mod EffectLaws
+pub mod DeedTests
+pub mod ListedTerms
+pub mod Ancestry
+pub mod TypedArguments
+pub mod CostTerms
+pub mod ApplicableActions

@@ -2,10 +2,12 @@
 //! with an empty body, and holds of every resolved task.
 #![tactic(auto)]
 
+mod actions;
 mod conditions;
 mod effects;
 mod forms;
 
+pub use actions::actions_are_applicable_alike;
 pub use conditions::{
     actions_are_live_instances, conditions_are_ground_conditions, forms_are_listed,
     goals_are_ground_goals, preconditions_are_ground_conditions,
