@@ -1,3 +1,7 @@
 pub mod Shows
 pub mod StoredRows
 pub mod Corresponds
+pub mod Readable
+pub mod UnlistedAtoms
+pub mod ListedForms
+pub mod Deeds
