@@ -1,1 +1,3 @@
+pub mod FormSigns
 pub mod Fractions
+pub mod Reached
