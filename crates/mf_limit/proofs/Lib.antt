@@ -1,3 +1,4 @@
 pub mod FormSigns
 pub mod Fractions
 pub mod Reached
+pub mod Truths
