@@ -1,3 +1,4 @@
+pub mod Families
 pub mod FormSigns
 pub mod Fractions
 pub mod Reached
