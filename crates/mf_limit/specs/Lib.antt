@@ -1,0 +1,2 @@
+pub mod GroundRuns
+pub mod NumberedTasks

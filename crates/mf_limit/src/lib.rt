@@ -1,0 +1,6 @@
+//! Dead ends: states from which no list of actions leads to a goal, found by the limit closure.
+#![tactic(auto)]
+
+mod laws;
+
+pub use laws::{dead_states_reach_no_goal, limit_closure_is_the_least_closed_family};
