@@ -6,6 +6,7 @@ mod actions;
 mod conditions;
 mod effects;
 mod forms;
+mod unlisted_atoms;
 
 pub use actions::actions_are_applicable_alike;
 pub use conditions::{
@@ -14,3 +15,4 @@ pub use conditions::{
 };
 pub use effects::{actions_fire_alike, effects_fire_alike};
 pub use forms::{comparisons_are_signs_of_differences, forms_have_the_values_of_expressions};
+pub use unlisted_atoms::rows_hide_unlisted_atoms;
