@@ -1,5 +1,5 @@
 -- The actions of a packed task are made of instances, and the forms that occur in them and in the goal are listed.
-use Rattle.std.proofs.Common.{◌≡◌, ℕ, zero, suc, true, List, [], ◌∷◌, ◌++◌, map, Option, Some, None, refl, sym, subst, ap}
+use Rattle.std.proofs.Common.{◌≡◌, ℕ, true, List, [], ◌∷◌, ◌++◌, map, Option, Some, None, refl, sym, subst, ap}
 use Rattle.std.specs.Prelude.{pos, slice_get, Contains, is_some}
 use Rattle.std.specs.List.{AllByRecursion, flat_map, filter}
 use Rattle.std.proofs.lemmas.List.Elements.{All-contains, All-contains_itself, All-from_recursion, filter_passes, recursion_from_All}
@@ -18,23 +18,8 @@ use Rattle.mf_task.specs.GroundMeaning.{form_at}
 use Rattle.mf_fraction.specs.Exact.{whole}
 use Rattle.mf_task.specs.Grounding.{condition_forms, effect_forms, form_number, functions_in, ground_action, ground_cond, ground_effects, ground_of, numbering_of, with_action, with_some_action}
 use Rattle.mf_bridge.specs.ListedForms.{AreListed, IsListed}
-use Rattle.mf_bridge.proofs.ListedForms.{all_back, all_front, fold_lists, listed_number}
-
-pub at_found : {X : Type 0} (P : X → Type 0) (xs : List X) (n : ℕ) (x : X) → AllByRecursion P xs → slice_get xs n ≡ Some x → P x
-at_found P [] n x all found = cc
-at_found P (y ∷ ys) zero x all found = subst P (same found) all.0
-  where
-    same : Some y ≡ Some x → y ≡ x
-    same e = cc
-at_found P (y ∷ ys) (suc n) x all found = at_found P ys n x all.1 found
-
-pub all_joined : {X Y : Type 0} (P : Y → Type 0) (f : X → List Y) (xs : List X) → AllByRecursion P (flat_map f xs) → AllByRecursion (λ x. AllByRecursion P (f x)) xs
-all_joined P f [] all = tt
-all_joined P f (x ∷ xs) all = (all_front P (f x) (flat_map f xs) all, all_joined P f xs (all_back P (f x) (flat_map f xs) all))
-
-pub all_append : {X : Type 0} (P : X → Type 0) (xs ys : List X) → AllByRecursion P xs → AllByRecursion P ys → AllByRecursion P (xs ++ ys)
-all_append P [] ys one other = other
-all_append P (x ∷ xs) ys one other = (one.0, all_append P xs ys one.1 other)
+use Rattle.mf_bridge.proofs.ListedForms.{fold_lists, listed_number}
+use Rattle.mf_bridge.proofs.Lists.{all_append, all_back, all_front, all_joined}
 
 -- what is true of all that is made of the instances is true of what is made of one of them
 pub of_instance : {Y : Type 0} (P : Y → Type 0) (task : TypedTask) (part : Action → List ℕ → List Y) (instances : List Instance) (instance : Instance) (action : Action) →
@@ -44,9 +29,6 @@ of_instance P task part instances instance action all contained found =
     subst (λ (a : Option Action). AllByRecursion P (with_some_action part instance.objects a)) found one
 
 module _ (task : TypedTask) (instances : List Instance) where
-  abbrev numbering_forms : List Form
-  numbering_forms = (numbering_of task instances).forms
-
   abbrev goal_forms : List Form
   goal_forms = condition_forms (kinds_of task) (functions_in (numbering_of task instances)) task.goal []
 

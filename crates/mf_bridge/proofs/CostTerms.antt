@@ -27,9 +27,9 @@ use Rattle.mf_model.specs.States.{start_of, value_at}
 use Rattle.mf_model.specs.ValidTasks.{IsValidAction, are_type_lists, are_types, are_valid_terms, counts_of, effect_step, is_valid_cond, is_valid_effect, is_valid_expr, is_valid_term, is_valid_use, parameter_count}
 use Rattle.mf_model.specs.Views.{Look, object_of, objects_of}
 use Rattle.mf_meaning.proofs.ActionsOf.{all_at}
-use Rattle.mf_bridge.proofs.ActionsMade.{all_append, at_found}
 use Rattle.mf_bridge.proofs.Ancestry.{ancestors_closed}
 use Rattle.mf_bridge.proofs.TypedArguments.{are_of, are_of_at, binding_passes, bindings_fit, is_of}
+use Rattle.mf_bridge.proofs.Lists.{all_append, at_found}
 
 -- types
 

@@ -53,9 +53,6 @@ deed_apart ds (ChangesCost value) = true
 -- of ground changes
 
 module _ (packed : Task) (sight : Sight) where
-  abbrev done : List GroundChange → List Deed
-  done gs = flat_map (ground_deeds packed sight) gs
-
   ground_defined : (gs : List GroundChange) → list_all (is_ground_defined packed sight) gs ≡ list_all (deed_defined sight) (flat_map (ground_deeds packed sight) gs)
   ground_defined [] = refl
   ground_defined (change.Add atom ∷ gs) = ground_defined gs

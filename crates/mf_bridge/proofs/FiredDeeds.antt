@@ -40,7 +40,7 @@ use Rattle.mf_bridge.proofs.Expressions.{value_is_form_value}
 use Rattle.mf_bridge.proofs.FormLaws.{constant_within}
 use Rattle.mf_bridge.proofs.GroundConditions.{Test, Linear, Numbers, Costless, form_there, passes, readable_from, truth_is_ground_truth}
 use Rattle.mf_bridge.proofs.GroundTruth.{of_both, of_fact}
-use Rattle.mf_bridge.proofs.ListedForms.{all_back, all_front}
+use Rattle.mf_bridge.proofs.Lists.{all_back, all_front}
 
 -- the tests of changes
 

@@ -19,12 +19,6 @@ and_true true = refl
 and_true false = refl
 
 module _ (numbering : Numbering) (packed : Task) (sight : Sight) where
-  conjuncts_of : Cond → Conjuncts
-  conjuncts_of = fold-Cond Conjuncts (conjuncts_step numbering)
-
-  abbrev Holds : GroundCond → Bool
-  Holds = ground_holds packed sight
-
   -- the whole is the ground condition, and the parts hold where it does
   record AreConjuncts (conjuncts : Conjuncts) (own : List ℕ → GroundCond) : Type 0 where
     whole : conjuncts.whole ≡ own

@@ -35,8 +35,9 @@ use Rattle.mf_bridge.proofs.Expressions.{comparison_is_sign, compared_form_lowes
 use Rattle.mf_bridge.proofs.FormLaws.{constant_value}
 use Rattle.mf_bridge.proofs.GroundTruth.{of_atom, of_compare, of_conjunction, of_disjunction, of_fact, of_negation, of_neither, or-no}
 use Rattle.mf_bridge.specs.ListedForms.{AreListed, IsListed}
-use Rattle.mf_bridge.proofs.ListedForms.{all_back, all_front, listed_number}
+use Rattle.mf_bridge.proofs.ListedForms.{listed_number}
 use Rattle.mf_bridge.proofs.Weights.{IsLowestForm}
+use Rattle.mf_bridge.proofs.Lists.{all_back, all_front}
 
 -- the tests of expressions
 pub data Test (task : TypedTask) : Type 0 where
@@ -65,12 +66,6 @@ readable_from task e all = record { linear = all Linear; numbers = all Numbers; 
 module _ (numbering : Numbering) (packed : Task) (look : Look) (sight : Sight) (shows : Shows numbering look sight) (hides : HidesUnlistedAtoms numbering sight) (same : packed.forms ≡ numbering.forms) where
   abbrev objects : List (List ℕ)
   objects = kinds_of numbering.task
-
-  abbrev forms : Cond → List ℕ → List Form
-  forms = condition_forms objects (functions_in numbering)
-
-  abbrev truth : GroundCond → Truth
-  truth = ground_truth packed sight
 
   abbrev Claim : Cond → Type 0
   Claim c = PassesAll numbering.task c → (b : List ℕ) → AreListed numbering.forms (condition_forms objects (functions_in numbering) c b) → truth_in objects look c b ≡ ground_truth packed sight (ground_cond numbering c b)

@@ -46,9 +46,6 @@ is_yes-all [] = refl
 is_yes-all (t ∷ ts) = is_yes-and t (all_of ts) ∙ ap (λ (b : Bool). is_yes t && b) (is_yes-all ts)
 
 module _ (task : Task) (sight : Sight) where
-  abbrev truth : GroundCond → Truth
-  truth = ground_truth task sight
-
   pub of_fact : (holds : Bool) → ground_truth task sight (node.Fact holds) ≡ truth_of holds
   of_fact holds = search (rules, the_lemmas)
 

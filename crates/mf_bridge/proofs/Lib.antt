@@ -11,6 +11,7 @@ pub mod StartRows
 pub mod MatchedChanges
 pub mod NumberedChanges
 pub mod NextStates
+pub mod Lists
 pub mod Numbers
 pub mod Weights
 pub mod FormLaws

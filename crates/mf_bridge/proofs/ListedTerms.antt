@@ -1,5 +1,5 @@
 -- The terms that the actions of a packed task change are among its terms, but for those of costs.
-use Rattle.std.proofs.Common.{◌≡◌, ℕ, Bool, true, false, ◌||◌, cond, List, [], ◌∷◌, ◌++◌, map, Some, refl, sym, subst, ap, ◌∙◌}
+use Rattle.std.proofs.Common.{◌≡◌, ℕ, Bool, true, false, ◌||◌, List, [], ◌∷◌, ◌++◌, map, Some, refl, sym, subst, ap, ◌∙◌}
 use Rattle.std.specs.Prelude.{if◌then◌else◌, slice_get, Contains}
 use Rattle.std.specs.List.{AllByRecursion, filter, flat_map, fold, list_any}
 use Rattle.std.proofs.lemmas.Bool.{false≢true, or_right}
@@ -16,8 +16,8 @@ use Rattle.mf_model.specs.Objects.{bindings, kinds_of}
 use Rattle.mf_model.specs.Views.{Look}
 use Rattle.mf_meaning.proofs.NumberOrder.{same_key-self}
 use Rattle.mf_task.specs.Grounding.{cell_of, condition_cells, effect_cells, effect_cells_step, is_before_cell, is_row_cell, is_same_cell, terms_of, with_action, with_cell}
-use Rattle.mf_bridge.proofs.ActionsMade.{all_append, of_instance}
-use Rattle.mf_bridge.proofs.ListedForms.{all_back, all_front}
+use Rattle.mf_bridge.proofs.ActionsMade.{of_instance}
+use Rattle.mf_bridge.proofs.Lists.{all_append, all_back, all_front, unfiltered}
 
 abbrev pub IsTerm : List Cell → Cell → Type 0
 IsTerm cells c = list_any (is_same_cell c.function c.objects) cells ≡ true
@@ -28,18 +28,18 @@ same_or : (b : Bool) → b ≡ true → (rest : Bool) → (b || rest) ≡ true
 same_or true e rest = refl
 same_or false e rest = absurd (false≢true e)
 
-pair_lists : (cells : List Cell) (a : Cell) → IsTerm (with_cell cells a) a
-pair_lists [] a = same_or (is_same_cell a.function a.objects a) (same_key-self a.function a.objects) false
-pair_lists (b ∷ bs) a = by (is_same_cell a.function a.objects b) (is_before_cell a b) refl (pair_lists bs a)
+more_lists : (cells : List Cell) (a : Cell) → IsTerm (with_cell cells a) a
+more_lists [] a = same_or (is_same_cell a.function a.objects a) (same_key-self a.function a.objects) false
+more_lists (b ∷ bs) a = by (is_same_cell a.function a.objects b) (is_before_cell a b) refl (more_lists bs a)
   where
     by : (same before : Bool) → is_same_cell a.function a.objects b ≡ same → IsTerm (with_cell bs a) a → IsTerm (if same then b ∷ bs else (if before then a ∷ b ∷ bs else b ∷ with_cell bs a)) a
     by true before e rest = same_or (is_same_cell a.function a.objects b) e _
     by false true e rest = same_or (is_same_cell a.function a.objects a) (same_key-self a.function a.objects) _
     by false false e rest = or_right (is_same_cell a.function a.objects b) _ rest
 
-pair_keeps : (test : Cell → Bool) (cells : List Cell) (a : Cell) → list_any test cells ≡ true → list_any test (with_cell cells a) ≡ true
-pair_keeps test [] a e = absurd (false≢true e)
-pair_keeps test (b ∷ bs) a e = by (is_same_cell a.function a.objects b) (is_before_cell a b) (test b) e (pair_keeps test bs a) refl
+more_keeps : (test : Cell → Bool) (cells : List Cell) (a : Cell) → list_any test cells ≡ true → list_any test (with_cell cells a) ≡ true
+more_keeps test [] a e = absurd (false≢true e)
+more_keeps test (b ∷ bs) a e = by (is_same_cell a.function a.objects b) (is_before_cell a b) (test b) e (more_keeps test bs a) refl
   where
     by : (same before here : Bool) → (here || list_any test bs) ≡ true → (list_any test bs ≡ true → list_any test (with_cell bs a) ≡ true) → test b ≡ here → list_any test (if same then b ∷ bs else (if before then a ∷ b ∷ bs else b ∷ with_cell bs a)) ≡ true
     by true before here e rest h = ap (λ (x : Bool). x || list_any test bs) h ∙ e
@@ -49,20 +49,11 @@ pair_keeps test (b ∷ bs) a e = by (is_same_cell a.function a.objects b) (is_be
 
 fold_keeps : (test : Cell → Bool) (cells others : List Cell) → list_any test cells ≡ true → list_any test (fold with_cell cells others) ≡ true
 fold_keeps test cells [] e = e
-fold_keeps test cells (a ∷ others) e = fold_keeps test (with_cell cells a) others (pair_keeps test cells a e)
+fold_keeps test cells (a ∷ others) e = fold_keeps test (with_cell cells a) others (more_keeps test cells a e)
 
 fold_lists : (cells others : List Cell) → AllByRecursion (IsTerm (fold with_cell cells others)) others
 fold_lists cells [] = tt
-fold_lists cells (a ∷ others) = (fold_keeps (is_same_cell a.function a.objects) (with_cell cells a) others (pair_lists cells a), fold_lists (with_cell cells a) others)
-
--- what passes a filter has the property
-unfiltered : {X : Type 0} (P : X → Type 0) (test : X → Bool) (xs : List X) → AllByRecursion P (filter test xs) → AllByRecursion (λ x. test x ≡ true → P x) xs
-unfiltered P test [] all = tt
-unfiltered {X} P test (x ∷ xs) all = by (test x) refl all (unfiltered P test xs)
-  where
-    by : (kept : Bool) → test x ≡ kept → AllByRecursion P (cond kept (x ∷ filter test xs) (filter test xs)) → (AllByRecursion P (filter test xs) → AllByRecursion (λ x. test x ≡ true → P x) xs) → (test x ≡ true → P x) × AllByRecursion (λ x. test x ≡ true → P x) xs
-    by true e all rest = (λ t. all.0, rest all.1)
-    by false e all rest = (λ t. absurd (false≢true (sym e ∙ t)), rest all)
+fold_lists cells (a ∷ others) = (fold_keeps (is_same_cell a.function a.objects) (with_cell cells a) others (more_lists cells a), fold_lists (with_cell cells a) others)
 
 module _ (task : TypedTask) (instances : List Instance) where
   abbrev pub IsRowTerm : Cell → Type 0
@@ -70,9 +61,6 @@ module _ (task : TypedTask) (instances : List Instance) where
 
   abbrev own_cells : Action → List ℕ → List Cell
   own_cells action b = condition_cells (kinds_of task) action.condition b ++ effect_cells (kinds_of task) action.effect b
-
-  abbrev all_cells : List Cell
-  all_cells = map (λ v. v.cell) task.values ++ condition_cells (kinds_of task) task.goal [] ++ flat_map (with_action task own_cells) instances
 
   all_terms : AllByRecursion IsRowTerm (map (λ v. v.cell) task.values ++ condition_cells (kinds_of task) task.goal [] ++ flat_map (with_action task own_cells) instances)
   all_terms =

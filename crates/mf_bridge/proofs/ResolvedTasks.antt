@@ -12,7 +12,7 @@ use Rattle.mf_model.specs.Linearity.{is_linear, is_linear_change}
 use Rattle.mf_model.specs.ResolvedTask.{IsResolvedTask, has_stored_numbers}
 use Rattle.mf_meaning.proofs.ActionsOf.{action_is_free, all_at, goal_is_free}
 use Rattle.mf_bridge.specs.Readable.{IsReadableCondition, IsReadableEffect}
-use Rattle.mf_bridge.proofs.ActionsMade.{at_found}
+use Rattle.mf_bridge.proofs.Lists.{at_found}
 
 module _ (task : TypedTask) (resolved : IsResolvedTask task) where
   pub goal_readable : IsReadableCondition task task.goal

@@ -7,7 +7,7 @@ use Rattle.std.proofs.lemmas.List.{append-nil, append_assoc}
 use Rattle.std.proofs.lemmas.List.Folds.{list_all-append}
 use Rattle.mf_model.specs.Objects.{bindings, having, meets}
 use Rattle.mf_meaning.proofs.SortedLists.{all_weaker}
-use Rattle.mf_bridge.proofs.ActionsMade.{all_append}
+use Rattle.mf_bridge.proofs.Lists.{all_append}
 
 meets_nothing : (types : List ℕ) → meets types [] ≡ false
 meets_nothing [] = refl
@@ -90,9 +90,6 @@ module _ (kinds : List (List ℕ)) where
       let same : 0 + o ≡ o = omega arith in
       let here = ap (λ p. list_all test (bindings kinds others (b ++ p ∷ []))) (sym same) ∙ one_of test (λ o. bindings kinds others (b ++ o ∷ [])) types 0 kinds o all both.0 in
       ap test (sym (append_assoc b (o ∷ []) os)) ∙ binding_passes test others (b ++ o ∷ []) os here both.1
-
-  abbrev AreOf : List (List ℕ) → List ℕ → Type 0
-  AreOf types b = are_of types b ≡ true
 
   over : (front : List (List ℕ)) (types : List ℕ) (others : List (List ℕ)) (b : List ℕ) → are_of front b ≡ true →
       ((c : List ℕ) → are_of (front ++ types ∷ []) c ≡ true → AllByRecursion (λ c. are_of ((front ++ types ∷ []) ++ others) c ≡ true) (bindings kinds others c)) →

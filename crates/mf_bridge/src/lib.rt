@@ -9,6 +9,7 @@ mod effects;
 mod forms;
 mod next_rows;
 mod rows;
+mod unlisted_atoms;
 
 pub use actions::actions_are_applicable_alike;
 pub use conditions::{
@@ -26,3 +27,4 @@ pub use rows::{
 
 #[cfg(test)]
 mod tests;
+pub use unlisted_atoms::rows_hide_unlisted_atoms;
