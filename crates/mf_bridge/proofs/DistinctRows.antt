@@ -1,8 +1,6 @@
 -- Two rows of the task's shape that stand for one state are one row.
-use Rattle.std.proofs.Common.{◌≡◌, ℕ, List, length, Option, None, sym, ap, ◌∙◌}
-use Rattle.std.specs.Prelude.{get_or}
+use Rattle.std.proofs.Common.{◌≡◌, None, sym, ap, ◌∙◌}
 use Rattle.std.proofs.lemmas.List.{ext_get_or}
-use Rattle.mf_fraction.specs.Exact.{Number}
 use Rattle.mf_store.specs.Rows.{RowLists}
 use Rattle.mf_model.specs.declared.task.TypedTask.{TypedTask}
 use Rattle.mf_model.specs.declared.state.PlainState.{PlainState}

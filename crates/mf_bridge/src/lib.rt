@@ -8,7 +8,10 @@ mod rows;
 
 pub use coverage::{atoms_and_terms_are_sorted, atoms_cover, terms_cover};
 pub use next_rows::next_rows_stand_for_next_states;
-pub use rows::{rows_are_told_apart_by_states, rows_show_their_states, rows_stand_for_search_states, starts_are_start_rows};
+pub use rows::{
+    rows_are_told_apart_by_states, rows_show_their_states, rows_stand_for_search_states,
+    starts_are_start_rows,
+};
 
 #[cfg(test)]
 mod tests;
