@@ -1,25 +1,24 @@
 -- The atoms of a packed task are sorted, of fluent predicates alone, and cover all that can become true.
-use Rattle.std.proofs.Common.{◌≡◌, ℕ, Bool, true, false, not, ◌&&◌, ◌||◌, nat_eq, List, [], ◌∷◌, ◌++◌, map, Option, Some, None, refl, sym, subst, ap, ◌∙◌}
+use Rattle.std.proofs.Common.{◌≡◌, ℕ, Bool, true, false, not, ◌&&◌, nat_eq, List, [], ◌∷◌, ◌++◌, map, Option, Some, None, refl, sym, subst, ap, ◌∙◌}
 use Rattle.std.specs.Prelude.{slice_get, Contains}
-use Rattle.std.specs.List.{AllByRecursion, filter, flat_map, fold, list_any}
+use Rattle.std.specs.List.{AllByRecursion, filter, flat_map, list_any}
 use Rattle.std.proofs.lemmas.Bool.{eq-eqb, false≢true, not-true, or_from, or_parts}
 use Rattle.std.proofs.lemmas.List.Folds.{list_any-append}
 use Rattle.mf_model.specs.declared.task.Action.{Action}
 use Rattle.mf_model.specs.declared.task.Atom.{Atom}
-use Rattle.mf_model.specs.declared.task.Cond.{Cond}
-use Rattle.mf_model.specs.declared.task.Effect.{Effect, fold-Effect}
+use Rattle.mf_model.specs.declared.task.Effect.{Effect}
 use Rattle.mf_model.specs.declared.task.Effect.TheOpen.{Effect-F}
 use Rattle.mf_model.specs.declared.task.Effect.TheFolds.{ind-Effect, fold-roll-Effect, map-Effect}
 use Rattle.mf_model.specs.declared.task.TypedTask.{TypedTask}
 use Rattle.mf_model.specs.declared.state.Instance.{Instance}
 use Rattle.mf_model.specs.Functions.{is_static, touches, touches_step}
 use Rattle.mf_model.specs.Objects.{bindings, kinds_of}
-use Rattle.mf_model.specs.States.{atom_before, is_atom, look_of, start_of, with_atom}
+use Rattle.mf_model.specs.States.{atom_before, is_atom, look_of, start_of}
 use Rattle.mf_meaning.proofs.ActionsOf.{none_at}
 use Rattle.mf_meaning.proofs.NumberOrder.{same_key-number}
 use Rattle.mf_meaning.specs.SortedStates.{IsSortedList}
 use Rattle.mf_task.specs.Grounding.{atoms_of, changed_atoms, changed_atoms_step, with_action, with_some_action}
-use Rattle.mf_bridge.proofs.ListTests.{all_fail, any_back, any_filtered, any_front, any_joined}
+use Rattle.mf_bridge.proofs.ListTests.{any_back, any_filtered, any_front, any_joined}
 use Rattle.mf_bridge.proofs.ListedCells.{all_in_fold, any_in_fold, fold_atoms_sorted}
 
 -- an effect that touches no atom of a predicate changes none

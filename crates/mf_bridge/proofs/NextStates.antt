@@ -8,9 +8,9 @@ use Rattle.mf_store.specs.Rows.{RowLists, bit_in}
 use Rattle.mf_model.specs.declared.task.TypedTask.{TypedTask}
 use Rattle.mf_model.specs.declared.state.Instance.{Instance}
 use Rattle.mf_model.specs.declared.state.PlainState.{PlainState}
-use Rattle.mf_model.specs.Application.{Change, added, changes_of, deleted, is_applicable, is_apart, is_defined, next_state, precondition_holds, with_change}
+use Rattle.mf_model.specs.Application.{Change, added, changes_of, deleted, is_applicable, is_apart, is_defined, next_state, precondition_holds}
 use Rattle.mf_model.specs.Functions.{is_constant, is_cost, is_static}
-use Rattle.mf_model.specs.SearchStates.{search_state, with_costs}
+use Rattle.mf_model.specs.SearchStates.{with_costs}
 use Rattle.mf_model.specs.States.{is_atom, look_of, start_of, value_at, without_atom}
 use Rattle.mf_meaning.specs.ReachedStates.{IsSearchState}
 use Rattle.mf_meaning.specs.SearchPlans.{next_search_state}

@@ -1,7 +1,7 @@
 -- What the same changes do to an atom and to a term, by their names and by their numbers.
-use Rattle.std.proofs.Common.{◌≡◌, ℕ, ◌+◌, ◌<◌, Bool, true, false, not, ◌&&◌, ◌||◌, cond, nat_eq, ℤ, pos, ◌*ℤ◌, List, [], ◌∷◌, ◌++◌, length, Option, Some, None, refl, sym, subst, ap, ap₂, ◌∙◌, arith}
+use Rattle.std.proofs.Common.{◌≡◌, ℕ, Bool, true, false, not, ◌&&◌, ◌||◌, cond, nat_eq, ℤ, pos, ◌*ℤ◌, List, [], ◌∷◌, length, Option, Some, None, refl, sym, ap, ap₂, ◌∙◌, arith}
 use Rattle.std.specs.Prelude.{get_or}
-use Rattle.std.specs.List.{AllByRecursion, flat_map, fold, list_all, list_any, position, position_or_len}
+use Rattle.std.specs.List.{flat_map, fold, list_all, list_any, position, position_or_len}
 use Rattle.std.specs.Option.{is_some}
 use Rattle.std.specs.Ordering.{int_eq}
 use Rattle.std.proofs.lemmas.Bool.{and_parts, eq-eqb, eqb-true, false≢true, le-ltb, lt-ltb}
@@ -18,7 +18,7 @@ use Rattle.mf_model.specs.declared.task.Valued.{Valued}
 use Rattle.mf_model.specs.declared.task.TypedTask.{TypedTask}
 use Rattle.mf_model.specs.Application.{Change, Added, Deleted, Changed, added, deleted, divides_by_zero, is_defined, new_value, reads_old, with_change, with_some_value}
 use Rattle.mf_model.specs.Functions.{is_cost}
-use Rattle.mf_model.specs.States.{is_atom, is_cell, value_at, without_atom}
+use Rattle.mf_model.specs.States.{is_atom, value_at, without_atom}
 use Rattle.mf_model.specs.Views.{Look}
 use Rattle.mf_meaning.proofs.Lookups.{is_there-without_atom, value_at-with_value}
 use Rattle.mf_meaning.proofs.NumberOrder.{same_key, same_key-number, same_key-objects}
@@ -78,8 +78,8 @@ atom_tells p os q qs atoms m found =
     number_tells (is_atom p os) (is_atom q qs) atoms m (record { predicate = q; objects = qs }) (same_key p os q qs)
     (λ e. ap (λ (n : ℕ). is_atom n os) (same_key-number p os q qs e) ∙ ap (λ (ns : List ℕ). is_atom q ns) (same_key-objects p os q qs e))
     (λ a first second.
-        ap (λ (n : ℕ). same_key p os n qs) (same_key-number q qs a.predicate a.objects second)
-        ∙ ap (λ (ns : List ℕ). same_key p os a.predicate ns) (same_key-objects q qs a.predicate a.objects second) ∙ first)
+    ap (λ (n : ℕ). same_key p os n qs) (same_key-number q qs a.predicate a.objects second)
+    ∙ ap (λ (ns : List ℕ). same_key p os a.predicate ns) (same_key-objects q qs a.predicate a.objects second) ∙ first)
     (is_at (is_atom q qs) atoms m found)
 
 cell_tells : (f : ℕ) (os : List ℕ) (g : ℕ) (qs : List ℕ) (cells : List Cell) (m : ℕ) → position (is_same_cell g qs) cells ≡ Some m →
@@ -88,8 +88,8 @@ cell_tells f os g qs cells m found =
     number_tells (is_same_cell f os) (is_same_cell g qs) cells m (record { function = g; objects = qs }) (same_key f os g qs)
     (λ e. ap (λ (n : ℕ). is_same_cell n os) (same_key-number f os g qs e) ∙ ap (λ (ns : List ℕ). is_same_cell g ns) (same_key-objects f os g qs e))
     (λ c first second.
-        ap (λ (n : ℕ). same_key f os n qs) (same_key-number g qs c.function c.objects second)
-        ∙ ap (λ (ns : List ℕ). same_key f os c.function ns) (same_key-objects g qs c.function c.objects second) ∙ first)
+    ap (λ (n : ℕ). same_key f os n qs) (same_key-number g qs c.function c.objects second)
+    ∙ ap (λ (ns : List ℕ). same_key f os c.function ns) (same_key-objects g qs c.function c.objects second) ∙ first)
     (is_at (is_same_cell g qs) cells m found)
 
 -- atoms
@@ -141,8 +141,8 @@ module _ (task : TypedTask) (packed : Task) (sight : Sight) (p : ℕ) (os : List
     none = nothing among_atoms;
     nothing = λ gs cs rest. rest ∙ ap (λ (b : Bool). among_atoms && (b || list_any numbered gs)) (sym skipped);
     more = λ g gs c cs same rest.
-      list_any-append (is_atom p os) (named c) (flat_map named cs)
-      ∙ shared_or among_atoms (list_any (is_atom p os) (named c)) (numbered g) (list_any (is_atom p os) (flat_map named cs)) (list_any numbered gs) (step g c same) rest;
+        list_any-append (is_atom p os) (named c) (flat_map named cs)
+        ∙ shared_or among_atoms (list_any (is_atom p os) (named c)) (numbered g) (list_any (is_atom p os) (flat_map named cs)) (list_any numbered gs) (step g c same) rest;
   })
 
   pub adds_alike : (gs : List GroundChange) (cs : List Change) → AreSameChanges task packed sight gs cs → list_any (is_atom p os) (flat_map added cs) ≡ (among_atoms && list_any (adds_atom atom_place) gs)
@@ -303,6 +303,6 @@ module _ (task : TypedTask) (packed : Task) (sight : Sight) (look : Look) (f : �
     none = λ values defined stays. unchanged among_terms (value_at values f os);
     nothing = λ gs cs rest. rest;
     more = λ g gs c cs same rest values defined stays.
-      let both = and_parts (is_defined look c) (list_all (is_defined look) cs) defined in
-      joined values g gs c cs (value_step values stays g c same both.0) (rest (with_change values c) both.1 (step_stays values c both.0 stays));
+        let both = and_parts (is_defined look c) (list_all (is_defined look) cs) defined in
+        joined values g gs c cs (value_step values stays g c same both.0) (rest (with_change values c) both.1 (step_stays values c both.0 stays));
   })

@@ -5,11 +5,10 @@ use Rattle.std.specs.Int.{bit_at}
 use Rattle.std.specs.List.{All}
 use Rattle.std.proofs.lemmas.Bool.{cases_lt}
 use Rattle.std.proofs.lemmas.Bool.Decides.{nat_tests}
-use Rattle.std.proofs.lemmas.List.{drop-drop, ext_get_or, get_or-drop, get_or-take, get_or_past, length-drop}
+use Rattle.std.proofs.lemmas.List.{drop-drop, ext_get_or, get_or-drop, get_or-take, get_or_past}
 use Rattle.std.proofs.lemmas.Nat.Bits.{bit_at-lt, bit_at-suc, bit_at-zero, bit_at_lowest, same_from_bits_below}
 use Rattle.mf_store.specs.Rows.{bit_in}
 use Rattle.mf_task.specs.Grounding.{word_of, words_of}
-use Rattle.mf_task.specs.Rows.{word_count}
 
 -- words with the same bits
 
@@ -25,8 +24,8 @@ one_bit x y a b e = grind (arith, nat_tests)
 same_word : (us vs : List ℕ) (k : ℕ) → get_or us k 0 < 2 ^ 64 → get_or vs k 0 < 2 ^ 64 → ((n : ℕ) → bit_in us n ≡ bit_in vs n) → get_or us k 0 ≡ get_or vs k 0
 same_word us vs k a b same =
     same_from_bits_below 64 (get_or us k 0) (get_or vs k 0) a b (λ i within.
-        one_bit (bit_at (get_or us k 0) i) (bit_at (get_or vs k 0) i) (bit_at-lt (get_or us k 0) i) (bit_at-lt (get_or vs k 0) i)
-        (sym (bit_in_word us k i within) ∙ same (64 * k + i) ∙ bit_in_word vs k i within))
+    one_bit (bit_at (get_or us k 0) i) (bit_at (get_or vs k 0) i) (bit_at-lt (get_or us k 0) i) (bit_at-lt (get_or vs k 0) i)
+    (sym (bit_in_word us k i within) ∙ same (64 * k + i) ∙ bit_in_word vs k i within))
 
 pub same_words : (us vs : List ℕ) → length us ≡ length vs → All (λ word. word < 2 ^ 64) us → All (λ word. word < 2 ^ 64) vs → ((n : ℕ) → bit_in us n ≡ bit_in vs n) → us ≡ vs
 same_words us vs long first second same =

@@ -1,7 +1,7 @@
 -- A row and the state that it stands for show the same.
-use Rattle.std.proofs.Common.{◌≡◌, ℕ, zero, suc, ◌+◌, ◌≤◌, ◌<◌, Bool, true, false, not, ◌&&◌, ◌||◌, cond, nat_eq, nat_lt, List, [], ◌∷◌, length, Option, Some, None, refl, sym, subst, ap, ◌∙◌, arith, ⊎_elim}
+use Rattle.std.proofs.Common.{◌≡◌, ℕ, zero, suc, ◌≤◌, Bool, true, false, not, ◌&&◌, ◌||◌, cond, nat_eq, nat_lt, List, [], ◌∷◌, length, Option, Some, None, refl, sym, subst, ap, ◌∙◌, arith, ⊎_elim}
 use Rattle.std.specs.Prelude.{get_or, slice_get, IfSome, IsTrue, unsigned_abs}
-use Rattle.std.specs.List.{All, AllByRecursion, fold, list_any, position_or_len}
+use Rattle.std.specs.List.{AllByRecursion, fold, position_or_len}
 use Rattle.std.proofs.lemmas.Bool.{and_parts, cases_lt, eqb-true, false≢true, ltb-true}
 use Rattle.std.proofs.lemmas.List.{get_or_past}
 use Rattle.std.proofs.lemmas.List.Elements.{recursion_from_All}
@@ -16,7 +16,7 @@ use Rattle.mf_model.specs.declared.state.Instance.{Instance}
 use Rattle.mf_model.specs.Functions.{is_constant, is_cost, is_static}
 use Rattle.mf_model.specs.ResolvedTask.{IsResolvedTask, is_stored}
 use Rattle.mf_model.specs.SearchStates.{with_costs}
-use Rattle.mf_model.specs.States.{atom_before, cell_before, is_atom, is_cell, look_of, same_atom, same_cell, start_of, term_before, value_at, with_value}
+use Rattle.mf_model.specs.States.{atom_before, cell_before, is_cell, look_of, same_atom, same_cell, start_of, term_before, value_at, with_value}
 use Rattle.mf_meaning.proofs.NumberOrder.{same_key-back, same_key-self}
 use Rattle.mf_task.specs.declared.task.Task.{Task}
 use Rattle.mf_task.specs.Grounding.{ground_of, is_row_cell, is_same_cell, numbering_of}
@@ -26,7 +26,7 @@ use Rattle.mf_task.specs.Successors.{shows_atom, sight_in, value_shown}
 use Rattle.mf_bridge.specs.Shows.{Shows}
 use Rattle.mf_bridge.specs.StoredRows.{HasLowestValues}
 use Rattle.mf_bridge.proofs.ListTests.{any_at_place, place_at_place}
-use Rattle.mf_bridge.proofs.StateLookups.{IsListed, changing_in_state, constant_in_state, constant_with_costs, fluent_in_state, listed_in_state, listed_value_in_state, packed_is_listed, static_in_state, value_with_costs}
+use Rattle.mf_bridge.proofs.StateLookups.{IsListed, changing_in_state, constant_with_costs, fluent_in_state, listed_in_state, listed_value_in_state, packed_is_listed, static_in_state, value_with_costs}
 
 -- lowest terms
 

@@ -1,5 +1,5 @@
 -- The atoms and the values that a row shows, among sorted atoms and terms.
-use Rattle.std.proofs.Common.{◌≡◌, ℕ, zero, suc, ◌+◌, Bool, true, false, not, ◌&&◌, ◌||◌, cond, List, [], ◌∷◌, length, Option, Some, None, refl, sym, ap, ◌∙◌, arith}
+use Rattle.std.proofs.Common.{◌≡◌, ℕ, ◌+◌, Bool, true, false, not, ◌&&◌, ◌||◌, cond, List, [], ◌∷◌, Option, Some, None, refl, sym, ap, ◌∙◌, arith}
 use Rattle.std.specs.Prelude.{get_or}
 use Rattle.std.specs.List.{AllByRecursion, list_any, position_or_len}
 use Rattle.mf_fraction.specs.Exact.{Number}
@@ -7,12 +7,12 @@ use Rattle.mf_store.specs.Rows.{bit_in}
 use Rattle.mf_model.specs.declared.task.Atom.{Atom}
 use Rattle.mf_model.specs.declared.task.Cell.{Cell}
 use Rattle.mf_model.specs.declared.task.Valued.{Valued}
-use Rattle.mf_model.specs.States.{atom_before, cell_before, is_atom, is_cell, same_atom, term_before, value_at}
+use Rattle.mf_model.specs.States.{atom_before, cell_before, is_atom, term_before, value_at}
 use Rattle.mf_meaning.specs.SortedStates.{IsSortedList}
-use Rattle.mf_meaning.proofs.NumberOrder.{key_before-apart, same_key-number, same_key-objects, same_key-self, same_key-back}
+use Rattle.mf_meaning.proofs.NumberOrder.{key_before-apart, same_key-number, same_key-objects}
 use Rattle.mf_task.specs.Grounding.{is_same_cell}
 use Rattle.mf_task.specs.RowStates.{atoms_shown, valued, values_shown}
-use Rattle.mf_bridge.proofs.ListTests.{any_at_place, none_later, none_passes, place_at_place}
+use Rattle.mf_bridge.proofs.ListTests.{none_later, none_passes}
 
 -- atoms
 

@@ -1,26 +1,25 @@
 -- The start's row stands for the start as a search state.
-use Rattle.std.proofs.Common.{◌≡◌, ℕ, zero, suc, ◌+◌, ◌*◌, ◌≤◌, Bool, true, false, not, ◌&&◌, ◌||◌, cond, List, [], ◌∷◌, map, length, Option, Some, None, refl, sym, ap, ◌∙◌, arith}
+use Rattle.std.proofs.Common.{◌≡◌, ℕ, suc, ◌+◌, Bool, true, false, not, ◌&&◌, ◌||◌, cond, List, [], ◌∷◌, map, length, Option, Some, None, refl, sym, ap, ◌∙◌, arith}
 use Rattle.std.specs.Prelude.{get_or}
-use Rattle.std.specs.List.{filter, list_any, position_or_len}
+use Rattle.std.specs.List.{list_any, position_or_len}
 use Rattle.std.specs.Option.{is_some}
 use Rattle.std.proofs.lemmas.Bool.{false≢true}
 use Rattle.std.proofs.lemmas.List.{get_or_past, length-map}
 use Rattle.mf_fraction.specs.Exact.{Number}
-use Rattle.mf_store.specs.Rows.{RowLists, bit_in}
+use Rattle.mf_store.specs.Rows.{bit_in}
 use Rattle.mf_model.specs.declared.task.Atom.{Atom}
 use Rattle.mf_model.specs.declared.task.Cell.{Cell}
 use Rattle.mf_model.specs.declared.task.TypedTask.{TypedTask}
 use Rattle.mf_model.specs.declared.state.Instance.{Instance}
-use Rattle.mf_model.specs.declared.state.PlainState.{PlainState}
 use Rattle.mf_model.specs.Functions.{is_constant, is_cost, is_static}
-use Rattle.mf_model.specs.SearchStates.{is_cost_value, search_state}
+use Rattle.mf_model.specs.SearchStates.{search_state}
 use Rattle.mf_model.specs.States.{is_atom, start_of, value_at}
 use Rattle.mf_meaning.proofs.CostValues.{is_no_cost}
 use Rattle.mf_meaning.proofs.Lookups.{value_at-filter}
 use Rattle.mf_meaning.proofs.NumberOrder.{same_key-number, same_key-objects}
 use Rattle.mf_meaning.proofs.SameStates.{same_states}
 use Rattle.mf_meaning.proofs.SortedStates.{search_state_is_sorted, start_is_sorted}
-use Rattle.mf_task.specs.Grounding.{atoms_of, ground_of, is_same_cell, start_row, terms_of, words_of}
+use Rattle.mf_task.specs.Grounding.{atoms_of, ground_of, is_same_cell, terms_of}
 use Rattle.mf_task.specs.Rows.{IsRowOf, word_count}
 use Rattle.mf_task.specs.RowStates.{state_of}
 use Rattle.mf_bridge.proofs.CoveredTerms.{start_terms_covered}
@@ -56,8 +55,8 @@ module _ (task : TypedTask) (instances : List Instance) where
     words = length_words (word_count (length (atoms_of task instances))) (map holds_at_start (atoms_of task instances));
     values = length-map (terms_of task instances) value_at_start;
     clear = λ n past.
-      let long = length-map (atoms_of task instances) holds_at_start in
-      start_bit n ∙ get_or_past (map holds_at_start (atoms_of task instances)) n false (omega (arith, long, past));
+        let long = length-map (atoms_of task instances) holds_at_start in
+        start_bit n ∙ get_or_past (map holds_at_start (atoms_of task instances)) n false (omega (arith, long, past));
   }
 
   atom_at_start : (p : ℕ) (os : List ℕ) → is_static task p ≡ false → (list_any (is_atom p os) (atoms_of task instances) && bit_in (ground_of task instances).start.bits (position_or_len (is_atom p os) (atoms_of task instances))) ≡ list_any (is_atom p os) (start_of task).atoms
