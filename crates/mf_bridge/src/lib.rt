@@ -27,4 +27,5 @@ pub use rows::{
 
 #[cfg(test)]
 mod tests;
+
 pub use unlisted_atoms::rows_hide_unlisted_atoms;

@@ -179,7 +179,6 @@ length_part bs = ap (λ (xs : List ℕ). length xs) (end_zeros bs) ∙ length-ta
 pub digits_without_end_zeros : (bs : List ℕ) → Digits bs → Digits (without_end_zeros bs)
 digits_without_end_zeros bs d = subst (λ (xs : List ℕ). Digits xs) (sym (end_zeros bs)) (digits_front (places bs) bs d)
 
-
 -- the last digit, if there is one, is no zero: ten divides nothing else
 ends_with : (b : ℕ) (xs : List ℕ) → (48 ≤ b) × (b ≤ 57) → (is_empty xs && (b == 48)) ≡ false → ((m : ℕ) → digits_value xs ≡ 10 * m → xs ≡ []) → (m : ℕ) → (b - 48) * 10 ^ length xs + digits_value xs ≡ 10 * m → b ∷ xs ≡ []
 ends_with b [] range kept rest m e = by (b == 48) refl kept
