@@ -11,3 +11,4 @@ pub mod StartRows
 pub mod MatchedChanges
 pub mod NumberedChanges
 pub mod NextStates
+pub mod SameDeeds

@@ -1,3 +1,5 @@
 pub mod Shows
 pub mod StoredRows
 pub mod Corresponds
+pub mod Deeds
+pub mod ListedChanges
