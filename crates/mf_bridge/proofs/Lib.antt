@@ -12,3 +12,4 @@ pub mod MatchedChanges
 pub mod NumberedChanges
 pub mod NextStates
 pub mod SameDeeds
+pub mod FiredNames

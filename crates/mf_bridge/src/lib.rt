@@ -7,7 +7,7 @@ mod coverage;
 mod next_rows;
 mod rows;
 
-pub use changes::changes_with_the_same_deeds_are_the_same;
+pub use changes::{changes_are_listed, changes_with_the_same_deeds_are_the_same};
 pub use coverage::{atoms_and_terms_are_sorted, atoms_cover, terms_cover};
 pub use next_rows::next_rows_stand_for_next_states;
 pub use rows::{
