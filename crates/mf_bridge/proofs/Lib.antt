@@ -31,3 +31,5 @@ pub mod Ancestry
 pub mod TypedArguments
 pub mod CostTerms
 pub mod ApplicableActions
+pub mod SameDeeds
+pub mod FiredNames

@@ -5,3 +5,4 @@ pub mod Readable
 pub mod UnlistedAtoms
 pub mod ListedForms
 pub mod Deeds
+pub mod ListedChanges

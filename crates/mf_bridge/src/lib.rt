@@ -3,6 +3,7 @@
 #![tactic(auto)]
 
 mod actions;
+mod changes;
 mod conditions;
 mod coverage;
 mod effects;
@@ -12,6 +13,7 @@ mod rows;
 mod unlisted_atoms;
 
 pub use actions::actions_are_applicable_alike;
+pub use changes::{changes_are_listed, changes_with_the_same_deeds_are_the_same};
 pub use conditions::{
     actions_are_live_instances, conditions_are_ground_conditions, forms_are_listed,
     goals_are_ground_goals, preconditions_are_ground_conditions,
@@ -24,8 +26,7 @@ pub use rows::{
     rows_are_told_apart_by_states, rows_show_their_states, rows_stand_for_search_states,
     starts_are_start_rows,
 };
+pub use unlisted_atoms::rows_hide_unlisted_atoms;
 
 #[cfg(test)]
 mod tests;
-
-pub use unlisted_atoms::rows_hide_unlisted_atoms;
