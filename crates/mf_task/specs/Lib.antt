@@ -13,3 +13,4 @@ pub mod SameStates
 pub mod Successors
 pub mod WideForms
 pub mod Width
+pub mod Histories

@@ -1,0 +1,4 @@
+pub mod TakenGoals
+pub mod LastEntries
+pub mod TraceLaws
+pub mod Walks
