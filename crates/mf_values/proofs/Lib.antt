@@ -1,0 +1,15 @@
+pub mod Ends
+pub mod Kept
+pub mod Folds
+pub mod Quiet
+pub mod Served
+pub mod Serving
+pub mod Layering
+pub mod Negatives
+pub mod Needs
+pub mod Required
+pub mod Chosen
+pub mod Plans
+pub mod FirstLevels
+pub mod ZeroLevels
+pub mod ZeroValues
