@@ -1,2 +1,4 @@
+pub mod Growth
 pub mod GroundRuns
 pub mod NumberedTasks
+pub mod Sets

@@ -2,5 +2,7 @@
 #![tactic(auto)]
 
 mod laws;
+mod scene;
+mod sets;
 
 pub use laws::{dead_states_reach_no_goal, limit_closure_is_the_least_closed_family};
