@@ -1,5 +1,6 @@
 pub mod DeadEnds
 pub mod Families
+pub mod FirstSets
 pub mod FormSigns
 pub mod Fractions
 pub mod Reached

@@ -1,3 +1,4 @@
+pub mod Chances
 pub mod Growth
 pub mod GroundRuns
 pub mod NumberedTasks

@@ -1,6 +1,7 @@
 //! Dead ends: states from which no list of actions leads to a goal, found by the limit closure.
 #![tactic(auto)]
 
+mod chance;
 mod laws;
 mod scene;
 mod sets;

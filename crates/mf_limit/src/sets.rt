@@ -132,8 +132,9 @@ fn first_atoms(alloc: Global, row: &Row, count: usize) -> Result<Vec<AtomChance>
 fn first_terms(alloc: Global, row: &Row) -> Result<Vec<TermChance>, Memory>
     ensures { IfOk result (λ terms. terms.items ≡ map first_term row.now.values) }
 {
-    let mut terms = Vec::with_capacity(alloc, row.values().len())?;
-    for value in row.values() {
+    let values = row.values();
+    let mut terms = Vec::with_capacity(alloc, values.len())?;
+    for value in values {
         terms.push_reserved(TermChance {
             may_rise: false,
             may_fall: false,
