@@ -3,6 +3,7 @@ pub mod Families
 pub mod FirstSets
 pub mod FormSigns
 pub mod Fractions
+pub mod KnownValues
 pub mod Reached
 pub mod Rounds
 pub mod Steps

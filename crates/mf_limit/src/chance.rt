@@ -1,14 +1,16 @@
 //! What may become of linear forms in the limit closure.
+ghost use Rattle.mf_fraction.specs.Exact.{product_of, sum_of};
 ghost use Rattle.mf_limit.specs.Chances.{chance_of, may_have, next_known, no_chance, optional_chance};
 ghost use Rattle.mf_limit.specs.Sets.{family_of};
 ghost use Rattle.mf_task.specs.GroundMeaning.{form_at, optional_form_at, sign};
-ghost use Rattle.mf_task.specs.LimitClosure.{form_may_be_defined, is_zero, known_value, lifts, lowers, may_get, may_go_down, may_go_up};
+ghost use Rattle.mf_task.specs.LimitClosure.{if_fits, known_value, lifts, lowers, may_get, sign_of_known};
 ghost use Rattle.mf_task.specs.Rows.{sight_of};
-ghost use Rattle.std.specs.Prelude.{◌≡◌, get_or, None};
+ghost use Rattle.std.specs.List.{list_all, list_any};
+ghost use Rattle.std.specs.Prelude.{◌≡◌, get_or, None, Some};
 
 use crate::scene::Scene;
 use crate::sets::LimitSets;
-use mf_fraction::{Frac, add, mul};
+use mf_fraction::{Frac, Wide, add, mul};
 use mf_store::Row;
 use mf_task::{Form, Part};
 use std::cmp::Ordering;
@@ -65,18 +67,19 @@ pub(crate) fn chance_of_number(scene: &Scene<'_>, sets: &LimitSets, form: u32) -
 fn chance_of_form(row: &Row, sets: &LimitSets, form: &Form) -> FormChance
     ensures { result ≡ chance_of (sight_of row.now) (family_of sets.now) form.now }
 {
+    let parts = form.parts.as_slice();
     FormChance {
-        may_be_defined: may_be_defined(sets, form),
-        sign: known_value(row, form).map(sign),
-        may_go_up: may_go_up(sets, form),
-        may_go_down: may_go_down(sets, form),
+        may_be_defined: may_be_defined(sets, parts),
+        sign: sign_of_known(known_value(row, form.constant, parts)),
+        may_go_up: may_go_up(sets, parts),
+        may_go_down: may_go_down(sets, parts),
     }
 }
 
-fn may_be_defined(sets: &LimitSets, form: &Form) -> bool
-    ensures { result ≡ form_may_be_defined (family_of sets.now) form.now }
+fn may_be_defined(sets: &LimitSets, parts: &[Part]) -> bool
+    ensures { result ≡ list_all (λ part. (family_of sets.now).defined part.term) parts.now }
 {
-    for part in form.parts.as_slice() {
+    for part in parts {
         if !sets.term(part.term).may_be_defined {
             return false;
         }
@@ -84,10 +87,10 @@ fn may_be_defined(sets: &LimitSets, form: &Form) -> bool
     true
 }
 
-fn may_go_up(sets: &LimitSets, form: &Form) -> bool
-    ensures { result ≡ may_go_up (family_of sets.now) form.now }
+fn may_go_up(sets: &LimitSets, parts: &[Part]) -> bool
+    ensures { result ≡ list_any (λ part. lifts (family_of sets.now) (sign part.coefficient) part.term) parts.now }
 {
-    for part in form.parts.as_slice() {
+    for part in parts {
         if lifts(sets, sign(part.coefficient), part.term) {
             return true;
         }
@@ -95,10 +98,10 @@ fn may_go_up(sets: &LimitSets, form: &Form) -> bool
     false
 }
 
-fn may_go_down(sets: &LimitSets, form: &Form) -> bool
-    ensures { result ≡ may_go_down (family_of sets.now) form.now }
+fn may_go_down(sets: &LimitSets, parts: &[Part]) -> bool
+    ensures { result ≡ list_any (λ part. lowers (family_of sets.now) (sign part.coefficient) part.term) parts.now }
 {
-    for part in form.parts.as_slice() {
+    for part in parts {
         if lowers(sets, sign(part.coefficient), part.term) {
             return true;
         }
@@ -127,13 +130,13 @@ fn lowers(sets: &LimitSets, coefficient: Ordering, term: u32) -> bool
     }
 }
 
-// The form's value at the row, with terms of coefficient 0 dropped. It is unknown where another term is undefined, or
-// where a product or a partial sum does not fit.
-fn known_value(row: &Row, form: &Form) -> Option<Frac>
-    ensures { result ≡ known_value (sight_of row.now) form.now.constant form.now.parts }
+// The value of a form at the row, with terms of coefficient 0 dropped. It is unknown where another term is undefined,
+// or where a product or a partial sum does not fit.
+fn known_value(row: &Row, constant: Frac, parts: &[Part]) -> Option<Frac>
+    ensures { result ≡ known_value (sight_of row.now) constant parts.now }
 {
-    let mut sum = form.constant;
-    for part in form.parts.as_slice() {
+    let mut sum = constant;
+    for part in parts {
         sum = next_known(row, sum, part)?;
     }
     Some(sum)
@@ -143,12 +146,36 @@ fn known_value(row: &Row, form: &Form) -> Option<Frac>
 fn next_known(row: &Row, sum: Frac, part: &Part) -> Option<Frac>
     ensures { result ≡ next_known (sight_of row.now) sum part.now }
 {
-    if sign(part.coefficient) == Ordering::Equal {
-        return Some(sum);
+    match sign(part.coefficient) {
+        Ordering::Equal => Some(sum),
+        _ => {
+            let value = value_at(row, part.term)?;
+            let product = product(part.coefficient, value)?;
+            total(sum, product)
+        }
     }
-    let value = value_at(row, part.term)?;
-    let product = mul(part.coefficient, value).ok()?;
-    add(sum, product).ok()
+}
+
+// The product, where it fits.
+#[tactic(auto, unfolding(mf_fraction::specs::Checked::checked))]
+fn product(a: Frac, b: Frac) -> Option<Frac>
+    ensures { result ≡ if_fits (product_of a b) Some }
+{
+    match mul(a, b) {
+        Ok(product) => Some(product),
+        Err(Wide) => None,
+    }
+}
+
+// The sum, where it fits.
+#[tactic(auto, unfolding(mf_fraction::specs::Checked::checked))]
+fn total(a: Frac, b: Frac) -> Option<Frac>
+    ensures { result ≡ if_fits (sum_of a b) Some }
+{
+    match add(a, b) {
+        Ok(sum) => Some(sum),
+        Err(Wide) => None,
+    }
 }
 
 fn value_at(row: &Row, term: u32) -> Option<Frac>
@@ -156,6 +183,15 @@ fn value_at(row: &Row, term: u32) -> Option<Frac>
 {
     match row.values().get(term as usize) {
         Some(value) => *value,
+        None => None,
+    }
+}
+
+fn sign_of_known(value: Option<Frac>) -> Option<Ordering>
+    ensures { result ≡ sign_of_known value }
+{
+    match value {
+        Some(value) => Some(sign(value)),
         None => None,
     }
 }

@@ -2,6 +2,7 @@
 #![tactic(auto)]
 
 mod chance;
+mod condition;
 mod laws;
 mod scene;
 mod sets;
