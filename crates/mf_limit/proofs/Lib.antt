@@ -1,8 +1,10 @@
+pub mod Closing
 pub mod DeadEnds
 pub mod Families
 pub mod FirstSets
 pub mod FormSigns
 pub mod Fractions
+pub mod Growing
 pub mod KnownValues
 pub mod Reached
 pub mod Rounds

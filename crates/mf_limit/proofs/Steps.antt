@@ -21,7 +21,8 @@ use Rattle.mf_task.specs.LinearForms.{form_value, optional_form_value, weight}
 use Rattle.mf_task.specs.Rows.{Sight}
 use Rattle.mf_limit.specs.GroundRuns.{sight_after}
 use Rattle.mf_limit.specs.NumberedTasks.{HasProperForms, IsProperForm, IsProperSight}
-use Rattle.mf_limit.proofs.Families.{either, has, has-gains}
+use Rattle.mf_limit.specs.Growth.{has}
+use Rattle.mf_limit.proofs.Families.{either, has-gains}
 use Rattle.mf_limit.proofs.FormSigns.{AreBoth, all-defined, both-summands, form-may, form-proper}
 use Rattle.mf_limit.proofs.Fractions.{before, before-either, before-less, before-more, toward}
 use Rattle.mf_limit.proofs.Reached.{IsReached, Reaches, moves}

@@ -1,5 +1,5 @@
 -- What may become of a form and of the term that an effect changes, in the words of the limit closure.
-use Rattle.std.specs.Prelude.{ℕ, Bool, true, false, ◌&&◌, if◌then◌else◌, List, [], ◌∷◌, ◌++◌, Option, Some, None}
+use Rattle.std.specs.Prelude.{ℕ, Bool, true, false, ◌&&◌, if◌then◌else◌, List, [], ◌∷◌, Option, Some, None}
 use Rattle.std.specs.List.{list_any}
 use Rattle.std.specs.declared.cmp.Ordering.{Ordering}
 use Rattle.std.specs.declared.cmp.Ordering.TheVariants.{Less, Equal, Greater}
@@ -10,9 +10,10 @@ use Rattle.mf_model.specs.declared.task.Relation.{Relation}
 use Rattle.mf_task.specs.declared.form.Form.{Form}
 use Rattle.mf_task.specs.declared.form.Part.{Part}
 use Rattle.mf_task.specs.GroundMeaning.{relates}
-use Rattle.mf_task.specs.LimitClosure.{Family, Gain, MayRise, MayFall, MayBeDefined, agrees_with, form_may_be_defined, gain_if, if_fits, is_zero, known_value, may_get, may_go_down, may_go_up, sign_of_known, then_some}
+use Rattle.mf_task.specs.LimitClosure.{Family, agrees_with, form_may_be_defined, if_fits, is_zero, known_value, may_get, may_go_down, may_go_up, sign_of_known, then_some}
 use Rattle.mf_task.specs.Rows.{Sight}
 use Rattle.mf_limit.specs.declared.chance.FormChance.{FormChance}
+use Rattle.mf_limit.specs.declared.sets.TermChance.{TermChance}
 
 -- the known value with one part more
 unfoldable pub next_known : Sight → Number → Part → Option Number
@@ -42,3 +43,11 @@ may_have chance asked = chance.may_be_defined && may_get chance.sign chance.may_
 -- the relation may hold, or fail where that is asked
 abbrev pub may_relate : Relation → FormChance → Bool → Bool
 may_relate r chance asked = list_any (λ o. agrees_with asked (relates r o) && may_have chance o) (Less ∷ Equal ∷ Greater ∷ [])
+
+-- what becomes of a term by an effect whose right side has these chances
+abbrev pub number_chance : Op → FormChance → TermChance
+number_chance Assign value = record { may_rise = value.may_be_defined; may_fall = value.may_be_defined; may_be_defined = value.may_be_defined }
+number_chance ScaleUp value = record { may_rise = true; may_fall = true; may_be_defined = false }
+number_chance ScaleDown value = record { may_rise = true; may_fall = true; may_be_defined = false }
+number_chance Increase value = record { may_rise = may_have value Greater; may_fall = may_have value Less; may_be_defined = false }
+number_chance Decrease value = record { may_rise = may_have value Less; may_fall = may_have value Greater; may_be_defined = false }

@@ -1,9 +1,10 @@
 -- What it means that sets grow by what effects give.
-use Rattle.std.specs.Prelude.{◌≡◌, ℕ, ◌<◌, Bool, true, false, List, [], ◌∷◌, length}
+use Rattle.std.specs.Prelude.{◌≡◌, ℕ, ◌<◌, Bool, true, false, List, [], ◌∷◌, ◌++◌, length}
 use Rattle.std.specs.List.{list_all}
-use Rattle.mf_task.specs.LimitClosure.{Family, Gain, MayBeTrue, MayBeFalse, MayRise, MayFall, MayBeDefined, IsWithin}
+use Rattle.mf_task.specs.LimitClosure.{Family, Gain, MayBeTrue, MayBeFalse, MayRise, MayFall, MayBeDefined, IsWithin, gain_if}
 use Rattle.mf_limit.specs.declared.sets.Gain.{Gain as Kind}
 use Rattle.mf_limit.specs.declared.sets.Gain.TheVariants as kind
+use Rattle.mf_limit.specs.declared.sets.TermChance.{TermChance}
 use Rattle.mf_limit.specs.declared.sets.LimitSets.{LimitSets}
 use Rattle.mf_limit.specs.Sets.{family_of}
 
@@ -21,6 +22,10 @@ gain_of (kind.MayBeFalse atom) = MayBeFalse atom
 gain_of (kind.MayRise term) = MayRise term
 gain_of (kind.MayFall term) = MayFall term
 gain_of (kind.MayBeDefined term) = MayBeDefined term
+
+-- what a chance of a term gives
+abbrev pub term_gains : ℕ → TermChance → List Gain
+term_gains term chance = gain_if chance.may_be_defined (MayBeDefined term) ++ gain_if chance.may_rise (MayRise term) ++ gain_if chance.may_fall (MayFall term)
 
 -- it is a gain of one of the sets' atoms or terms
 abbrev pub Fits : LimitSets → Kind → Type 0

@@ -3,8 +3,12 @@
 
 mod chance;
 mod condition;
+mod dead_end;
+mod gains;
 mod laws;
+mod rounds;
 mod scene;
 mod sets;
 
+pub use dead_end::dead;
 pub use laws::{dead_states_reach_no_goal, limit_closure_is_the_least_closed_family};
