@@ -25,7 +25,7 @@ gain_of (kind.MayBeDefined term) = MayBeDefined term
 
 -- what a chance of a term gives
 abbrev pub term_gains : ℕ → TermChance → List Gain
-term_gains term chance = gain_if chance.may_be_defined (MayBeDefined term) ++ gain_if chance.may_rise (MayRise term) ++ gain_if chance.may_fall (MayFall term)
+term_gains term chance = gain_if chance.may_be_defined (MayBeDefined term) ++ (gain_if chance.may_rise (MayRise term) ++ gain_if chance.may_fall (MayFall term))
 
 -- it is a gain of one of the sets' atoms or terms
 abbrev pub Fits : LimitSets → Kind → Type 0

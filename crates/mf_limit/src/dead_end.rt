@@ -4,7 +4,7 @@ ghost use Rattle.mf_task.specs.Rows.{IsRowOf, sight_of};
 ghost use Rattle.std.specs.Prelude.{◌≡◌, IfOk, true};
 
 use crate::condition::may_all_hold;
-use crate::rounds::limit_sets;
+use crate::repetition::limit_sets;
 use crate::scene::Scene;
 use mf_task::{Memory, Row, Task};
 use std::alloc::Global;

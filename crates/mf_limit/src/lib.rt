@@ -6,7 +6,7 @@ mod condition;
 mod dead_end;
 mod gains;
 mod laws;
-mod rounds;
+mod repetition;
 mod scene;
 mod sets;
 
