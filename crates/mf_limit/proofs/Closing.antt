@@ -42,7 +42,7 @@ module _ (task : Task) (sight : Sight) (numbered : is_numbered task ≡ true) wh
     underway-next n way = let next : suc n ≡ n + 1 = omega arith in record {
       sizes = sizes-kept task old new (λ f. flat_map (action_gains task sight f) task.actions) is_new way.sizes grows;
       reached = subst (λ k. IsWithin (family_after task sight k) (family_of new)) next
-        (within-within (family_after task sight (suc n)) (next_family task sight (family_of old)) (family_of new) (round-more task sight (family_after task sight n) (family_of old) way.reached) given);
+          (within-within (family_after task sight (suc n)) (next_family task sight (family_of old)) (family_of new) (round-more task sight (family_after task sight n) (family_of old) way.reached) given);
       within = within way.within;
     }
 

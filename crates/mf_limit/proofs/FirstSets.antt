@@ -1,13 +1,12 @@
 -- The sets that are made from a row have what is so there.
-use Rattle.std.proofs.Common.{◌≡◌, ◌∙◌, refl, sym, ap, ℕ, Bool, true, false, not, ◌<◌, ◌≤◌, nat_lt, List, length, map, get_or, Option, None, arith}
+use Rattle.std.proofs.Common.{◌≡◌, ◌∙◌, refl, sym, ap, ℕ, Bool, true, false, not, ◌≤◌, nat_lt, List, length, map, get_or, None, arith}
 use Rattle.std.specs.List.{range_with_len}
 use Rattle.std.proofs.Math.ListN.{get_or-map}
 use Rattle.std.proofs.lemmas.Bool.{ltb-false, ltb-true}
 use Rattle.std.proofs.lemmas.List.{get_or_past, length-map}
 use Rattle.std.proofs.lemmas.List.FromFn.{get_or-map-range_with_len, length-map-range_with_len}
-use Rattle.mf_store.specs.Rows.{RowLists, bit_in}
+use Rattle.mf_store.specs.Rows.{RowLists}
 use Rattle.mf_task.specs.declared.task.Task.{Task}
-use Rattle.mf_task.specs.LimitClosure.{IsWithin, first_family}
 use Rattle.mf_task.specs.Rows.{IsRowOf, sight_of}
 use Rattle.mf_limit.specs.declared.sets.AtomChance.{AtomChance}
 use Rattle.mf_limit.specs.declared.sets.TermChance.{TermChance}

@@ -1,5 +1,5 @@
 -- How sets grow: one gain after another, and what follows of a round.
-use Rattle.std.proofs.Common.{◌≡◌, ◌∙◌, refl, sym, ap, ℕ, ◌+◌, ◌<◌, ◌≤◌, Ordering, Less, Greater, Bool, true, false, ◌&&◌, ◌||◌, if◌then◌else◌, List, [], ◌∷◌, ◌++◌, length, take, get_or, Option, Some, None, true≢false}
+use Rattle.std.proofs.Common.{◌≡◌, ◌∙◌, refl, sym, ap, ℕ, ◌+◌, ◌<◌, ◌≤◌, Less, Greater, Bool, true, false, ◌||◌, if◌then◌else◌, List, [], ◌∷◌, ◌++◌, length, take, get_or, Option, Some, None, true≢false}
 use Rattle.std.specs.List.{flat_map, list_all}
 use Rattle.std.proofs.lemmas.Bool.{and_from, and_parts}
 use Rattle.std.proofs.lemmas.Grind.{flat_map-append}
@@ -13,7 +13,7 @@ use Rattle.mf_task.specs.declared.ground.GroundCond.{GroundCond}
 use Rattle.mf_task.specs.declared.ground.GroundChange.{GroundChange}
 use Rattle.mf_task.specs.declared.ground.GroundEffect.{GroundEffect}
 use Rattle.mf_task.specs.declared.task.Task.{Task}
-use Rattle.mf_task.specs.LimitClosure.{Family, Gain, MayBeDefined, MayFall, MayRise, IsWithin, action_gains, change_gains, effect_gains, form_may_be_defined, gain_if, may_have_sign, may_hold, number_gains, optional_may_be_defined, optional_may_have_sign}
+use Rattle.mf_task.specs.LimitClosure.{Family, Gain, MayBeDefined, MayFall, MayRise, IsWithin, action_gains, change_gains, effect_gains, form_may_be_defined, gain_if, may_have_sign, may_hold, number_gains}
 use Rattle.mf_task.specs.Rows.{Sight}
 use Rattle.mf_limit.specs.declared.sets.LimitSets.{LimitSets}
 use Rattle.mf_limit.specs.Chances.{number_chance, optional_chance}
@@ -51,14 +51,14 @@ grows-more a b c one other m n monotone first second = record {
   sizes = record { atoms = second.sizes.atoms ∙ first.sizes.atoms; terms = second.sizes.terms ∙ first.sizes.terms };
   kept = within-within (family_of a) (family_of b) (family_of c) first.kept second.kept;
   given =
-    list_all-append (has (family_of c)) (one (family_of a)) (other (family_of a))
-    ∙ and_from (list_all (has (family_of c)) (one (family_of a))) (list_all (has (family_of c)) (other (family_of a))) (all-has (family_of b) (family_of c) second.kept (one (family_of a)) first.given) (monotone (family_of a) (family_of b) (family_of c) first.kept second.given);
+      list_all-append (has (family_of c)) (one (family_of a)) (other (family_of a))
+      ∙ and_from (list_all (has (family_of c)) (one (family_of a))) (list_all (has (family_of c)) (other (family_of a))) (all-has (family_of b) (family_of c) second.kept (one (family_of a)) first.given) (monotone (family_of a) (family_of b) (family_of c) first.kept second.given);
   least = λ g within all.
-    let both = and_parts (list_all (has g) (one g)) (list_all (has g) (other g)) (sym (list_all-append (has g) (one g) (other g)) ∙ all) in
-    second.least g (first.least g within both.0) both.1;
+      let both = and_parts (list_all (has g) (one g)) (list_all (has g) (other g)) (sym (list_all-append (has g) (one g) (other g)) ∙ all) in
+      second.least g (first.least g within both.0) both.1;
   steady = λ e.
-    let both = neither m n e in
-    within-within (family_of c) (family_of b) (family_of a) (second.steady both.1) (first.steady both.0);
+      let both = neither m n e in
+      within-within (family_of c) (family_of b) (family_of a) (second.steady both.1) (first.steady both.0);
 }
 
 -- the gains of the old sets are those of a larger family that has its own
@@ -107,7 +107,7 @@ module _ (task : Task) (sight : Sight) (condition : GroundCond) (gains : Family 
     kept = grows.kept;
     given = ap (λ b. list_all (has (family_of new)) (if b then gains (family_of old) else [])) holds ∙ grows.given;
     least = λ g within all.
-      grows.least g within (sym (ap (λ b. list_all (has g) (if b then gains g else [])) (hold-more task sight (family_of old) g within condition holds)) ∙ all);
+        grows.least g within (sym (ap (λ b. list_all (has g) (if b then gains g else [])) (hold-more task sight (family_of old) g within condition holds)) ∙ all);
     steady = grows.steady;
   }
 

@@ -1,5 +1,5 @@
 -- The sets of the limit closure as the program keeps them.
-use Rattle.std.specs.Prelude.{◌≡◌, ℕ, Bool, true, false, not, length, get_or, Option, is_some}
+use Rattle.std.specs.Prelude.{◌≡◌, ℕ, true, false, not, length, get_or, Option, is_some}
 use Rattle.mf_fraction.specs.Exact.{Number}
 use Rattle.mf_task.specs.declared.task.Task.{Task}
 use Rattle.mf_task.specs.LimitClosure.{Family, IsWithin, first_family, limit_closure}

@@ -1,6 +1,6 @@
 //! What may become of linear forms in the limit closure.
 ghost use Rattle.mf_fraction.specs.Exact.{product_of, sum_of};
-ghost use Rattle.mf_limit.specs.Chances.{chance_of, may_have, next_known, no_chance, optional_chance};
+ghost use Rattle.mf_limit.specs.Chances.{chance_of, may_have, next_known, optional_chance};
 ghost use Rattle.mf_limit.specs.Sets.{family_of};
 ghost use Rattle.mf_task.specs.GroundMeaning.{form_at, optional_form_at, sign};
 ghost use Rattle.mf_task.specs.LimitClosure.{if_fits, known_value, lifts, lowers, may_get, sign_of_known};

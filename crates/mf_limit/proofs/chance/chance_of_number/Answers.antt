@@ -1,7 +1,6 @@
-use Rattle.std.proofs.Common.{◌≡◌, ◌∙◌, ◌≤◌, ap, sym, arith, pos, List, length, get_or}
+use Rattle.std.proofs.Common.{◌≤◌, ap, arith, pos, length}
 use Rattle.std.proofs.lemmas.List.{get_or_past}
 use Rattle.mf_fraction.specs.Exact.{whole}
-use Rattle.mf_task.specs.declared.form.Form.{Form}
 use Rattle.mf_task.specs.GroundMeaning.{form_at}
 use Rattle.mf_task.specs.LinearForms.{constant_form}
 use Rattle.mf_task.specs.Rows.{sight_of}

@@ -1,5 +1,4 @@
-use Rattle.std.proofs.Common.{◌≡◌, ◌∙◌, sym, ap, false, get_or, Option, None}
-use Rattle.mf_fraction.specs.Exact.{Number}
+use Rattle.std.proofs.Common.{◌≡◌, ◌∙◌, sym, ap, false}
 use Rattle.mf_model.specs.declared.task.Relation.TheVariants as relation
 use Rattle.mf_task.specs.GroundMeaning.{relates}
 use Rattle.mf_task.specs.LimitClosure.{is_zero}

@@ -1,9 +1,8 @@
-use Rattle.std.proofs.Common.{◌≡◌, ◌∙◌, ap}
+use Rattle.std.proofs.Common.{◌∙◌, ap}
 use Rattle.mf_task.specs.GroundMeaning.{optional_form_at}
 use Rattle.mf_task.specs.Rows.{sight_of}
 use Rattle.mf_limit.specs.Chances.{number_chance}
-use Rattle.mf_limit.specs.Growth.{Grows, term_gains}
-use Rattle.mf_limit.specs.declared.sets.TermChance.{TermChance}
+use Rattle.mf_limit.specs.Growth.{term_gains}
 use Rattle.mf_limit.proofs.Growing.{grows-by, grows-number}
 use Rattle.mf_limit.proofs.gains.add_number.Goals as goal
 

@@ -1,4 +1,4 @@
-use Rattle.std.proofs.Common.{◌≡◌, ◌∙◌, subst, ℕ, arith}
+use Rattle.std.proofs.Common.{◌≡◌, subst, ℕ, arith}
 use Rattle.mf_task.specs.LimitClosure.{round_count}
 use Rattle.mf_task.specs.Rows.{sight_of}
 use Rattle.mf_limit.proofs.Closing.{IsUnderway, ended, ended-all, underway-first, underway-next}
