@@ -12,3 +12,6 @@ mod sets;
 
 pub use dead_end::dead;
 pub use laws::{dead_states_reach_no_goal, limit_closure_is_the_least_closed_family};
+
+#[cfg(test)]
+mod tests;
