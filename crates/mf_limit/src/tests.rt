@@ -6,6 +6,7 @@ use crate::dead;
 use mf_fraction::Frac;
 use mf_model::{Atom, Cell, Instance, List, Op, Relation};
 use mf_task::{Form, GroundAction, GroundChange, GroundCond, GroundEffect, Part, Row, Task};
+use sqlite_items::Items;
 use std::alloc::Global;
 use std::process::Abort;
 use std::test::Fail;
@@ -131,6 +132,20 @@ fn is_dead_at(rt: &impl Abort, task: &Task, n: i64, d: i64) -> bool
     }
 }
 
+fn push(rt: &impl Abort, parts: &mut Items<GroundCond>, part: GroundCond) {
+    match parts.push(part) {
+        Ok(()) => {}
+        Err(_) => panic!(rt; "no memory"),
+    }
+}
+
+fn either(rt: &impl Abort, alloc: Global, left: GroundCond, right: GroundCond) -> GroundCond {
+    let mut parts = Items::new(alloc);
+    push(rt, &mut parts, left);
+    push(rt, &mut parts, right);
+    GroundCond::Or { parts }
+}
+
 fn compare(relation: Relation, form: u32) -> GroundCond {
     GroundCond::Compare { relation, form }
 }
@@ -167,5 +182,17 @@ fn an_atom_that_nothing_adds_is_a_dead_end(rt: HostRuntime) -> Result<(), Fail> 
     let count = action(&rt, alloc, always, Op::Increase);
     let task = task(&rt, alloc, count, GroundCond::Atom { atom: 0 });
     assert!(rt; is_dead_at(&rt, &task, 0, 1));
+    Ok(())
+}
+
+#[test]
+fn one_part_of_an_or_is_enough(rt: HostRuntime) -> Result<(), Fail> {
+    let alloc = rt.alloc();
+    let always = GroundCond::Fact { holds: true };
+    let count = action(&rt, alloc, always, Op::Increase);
+    let atom = GroundCond::Atom { atom: 0 };
+    let goal = either(&rt, alloc, atom, compare(Relation::AtLeast, OVER_TEN));
+    let task = task(&rt, alloc, count, goal);
+    assert!(rt; !is_dead_at(&rt, &task, 0, 1));
     Ok(())
 }
