@@ -5,7 +5,7 @@ use Rattle.std.proofs.lemmas.Bool.{and_parts}
 use Rattle.mf_task.specs.declared.ground.GroundAction.{GroundAction}
 use Rattle.mf_task.specs.declared.task.Task.{Task}
 use Rattle.mf_task.specs.GroundMeaning.{action_firing, ground_holds, is_ground_apart, is_ground_defined, is_ground_goal}
-use Rattle.mf_task.specs.LimitClosure.{Family, IsWithin, is_dead, limit_closure, may_hold, next_family}
+use Rattle.mf_task.specs.LimitClosure.{Family, IsWithin, is_dead, limit_closure, next_family}
 use Rattle.mf_task.specs.Rows.{Sight}
 use Rattle.mf_limit.specs.GroundRuns.{IsGroundRun, end_of_run, sight_after}
 use Rattle.mf_limit.specs.NumberedTasks.{HasProperForms, IsProperSight, is_numbered}

@@ -18,14 +18,7 @@ use Rattle.mf_task.specs.declared.task.Task.{Task}
 use Rattle.mf_task.specs.GroundMeaning.{form_at, optional_form_at, relates, sign}
 use Rattle.mf_task.specs.LimitClosure.{Family, Gain, MayBeTrue, MayBeFalse, MayRise, MayFall, MayBeDefined, IsWithin, action_gains, agrees_with, all_may, any_may, atom_may, change_gains, effect_gains, form_may_be_defined, gain_if, gives_defined, gives_fall, gives_false, gives_rise, gives_true, known_value, lifts, lowers, may_be, may_compare, may_get, may_go_down, may_go_up, may_have_sign, may_hold, may_step, next_family, number_gains, optional_may_be_defined, optional_may_have_sign, sign_of_known, with_gains}
 use Rattle.mf_task.specs.Rows.{Sight}
-
--- the family has a gain
-abbrev pub has : Family → Gain → Bool
-has f (MayBeTrue atom) = f.yes atom
-has f (MayBeFalse atom) = f.no atom
-has f (MayRise term) = f.up term
-has f (MayFall term) = f.down term
-has f (MayBeDefined term) = f.defined term
+use Rattle.mf_limit.specs.Growth.{has}
 
 pub either : (b c : Bool) → (b || c) ≡ true → (b ≡ true) ⊎ (c ≡ true)
 either true c e = inl refl
@@ -296,7 +289,7 @@ module _ (task : Task) (start : Sight) (f g : Family) (within : IsWithin f g) wh
     sign-gain value o gain e =
         if-more (optional_may_have_sign start f value o) (optional_may_have_sign start g value o) (gain ∷ []) (gain ∷ []) (optional-sign value o) (λ e. e) e
 
-    number-more : (op : Op) (term : ℕ) (value : Option Form) → Has (number_gains start g op term value) → Has (number_gains start f op term value)
+    pub number-more : (op : Op) (term : ℕ) (value : Option Form) → Has (number_gains start g op term value) → Has (number_gains start f op term value)
     number-more Assign term value e =
         if-more (optional_may_be_defined f value) (optional_may_be_defined g value) (MayBeDefined term ∷ MayRise term ∷ MayFall term ∷ []) (MayBeDefined term ∷ MayRise term ∷ MayFall term ∷ []) (optional-defined value) (λ e. e) e
     number-more ScaleUp term value e = e
@@ -308,14 +301,14 @@ module _ (task : Task) (start : Sight) (f g : Family) (within : IsWithin f g) wh
         append-more (gain_if (optional_may_have_sign start f value Less) (MayRise term)) (gain_if (optional_may_have_sign start f value Greater) (MayFall term))
         (gain_if (optional_may_have_sign start g value Less) (MayRise term)) (gain_if (optional_may_have_sign start g value Greater) (MayFall term)) (sign-gain value Less (MayRise term)) (sign-gain value Greater (MayFall term)) e
 
-    change-more : (c : GroundChange) → Has (change_gains task start g c) → Has (change_gains task start f c)
+    pub change-more : (c : GroundChange) → Has (change_gains task start g c) → Has (change_gains task start f c)
     change-more (change.Add atom) e = e
     change-more (change.Delete atom) e = e
     change-more (change.Number op term value) e = number-more op term (optional_form_at task value) e
     change-more (change.Cost value) e = e
     change-more change.Nothing e = e
 
-    effect-more : (effect : GroundEffect) → Has (effect_gains task start g effect) → Has (effect_gains task start f effect)
+    pub effect-more : (effect : GroundEffect) → Has (effect_gains task start g effect) → Has (effect_gains task start f effect)
     effect-more effect e =
         if-more (may_hold task start f effect.condition) (may_hold task start g effect.condition) (change_gains task start f effect.change) (change_gains task start g effect.change) (hold-more effect.condition) (change-more effect.change) e
 
@@ -323,7 +316,7 @@ module _ (task : Task) (start : Sight) (f g : Family) (within : IsWithin f g) wh
     list-more xs ys each [] e = refl
     list-more xs ys each (x ∷ all) e = append-more (xs x) (flat_map xs all) (ys x) (flat_map ys all) (each x) (list-more xs ys each all) e
 
-    action-more : (action : GroundAction) → Has (action_gains task start g action) → Has (action_gains task start f action)
+    pub action-more : (action : GroundAction) → Has (action_gains task start g action) → Has (action_gains task start f action)
     action-more action e =
         if-more (may_hold task start f action.condition) (may_hold task start g action.condition) (flat_map (effect_gains task start f) action.effects) (flat_map (effect_gains task start g) action.effects) (hold-more action.condition)
         (list-more (effect_gains task start f) (effect_gains task start g) effect-more action.effects) e

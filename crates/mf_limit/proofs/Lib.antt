@@ -1,7 +1,11 @@
+pub mod Closing
 pub mod DeadEnds
 pub mod Families
+pub mod FirstSets
 pub mod FormSigns
 pub mod Fractions
+pub mod Growing
+pub mod KnownValues
 pub mod Reached
 pub mod Rounds
 pub mod Steps

@@ -1,6 +1,6 @@
 -- The limit closure is closed: each round that adds something adds one of finitely many atoms and terms. And it is contained
 -- in each closed family.
-use Rattle.std.proofs.Common.{◌≡◌, ℕ, zero, suc, ◌+◌, ◌*◌, ◌<◌, ◌≤◌, ◌⊎◌, inl, inr, Ordering, Less, Equal, Greater, Bool, true, false, ◌&&◌, ◌||◌, if◌then◌else◌, nat_lt, eqb, List, [], ◌∷◌, ◌++◌, length, Option, Some, None, refl, sym, ap, subst, ◌∙◌, arith, true≢false}
+use Rattle.std.proofs.Common.{◌≡◌, ℕ, zero, suc, ◌+◌, ◌*◌, ◌<◌, ◌≤◌, ◌⊎◌, inl, inr, Less, Greater, Bool, true, false, ◌&&◌, ◌||◌, if◌then◌else◌, nat_lt, eqb, List, [], ◌∷◌, ◌++◌, length, Option, refl, sym, ap, subst, ◌∙◌, arith, true≢false}
 use Rattle.std.specs.List.{flat_map, list_all}
 use Rattle.std.proofs.lemmas.Bool.{and_from, and_parts, eqb-false, eqb-true, ltb-false, ltb-true, or_left, or_right}
 use Rattle.std.proofs.lemmas.List.Folds.{list_all-append}
@@ -13,10 +13,11 @@ use Rattle.mf_task.specs.declared.ground.GroundEffect.{GroundEffect}
 use Rattle.mf_task.specs.declared.ground.GroundAction.{GroundAction}
 use Rattle.mf_task.specs.declared.task.Task.{Task}
 use Rattle.mf_task.specs.GroundMeaning.{optional_form_at}
-use Rattle.mf_task.specs.LimitClosure.{Family, Gain, MayBeTrue, MayBeFalse, MayRise, MayFall, MayBeDefined, IsClosed, IsWithin, action_gains, change_gains, effect_gains, family_after, first_family, gain_if, limit_closure, may_hold, next_family, number_gains, optional_may_be_defined, optional_may_have_sign, round_count, with_gains}
+use Rattle.mf_task.specs.LimitClosure.{Family, Gain, MayRise, MayFall, MayBeDefined, IsClosed, IsWithin, action_gains, change_gains, effect_gains, family_after, first_family, gain_if, limit_closure, may_hold, next_family, number_gains, optional_may_be_defined, optional_may_have_sign, round_count}
 use Rattle.mf_task.specs.Rows.{Sight}
 use Rattle.mf_limit.specs.NumberedTasks.{is_numbered, is_numbered_action, is_numbered_change}
-use Rattle.mf_limit.proofs.Families.{either, gains-within, has, round-more, within-gains, within-itself, within-within}
+use Rattle.mf_limit.specs.Growth.{has}
+use Rattle.mf_limit.proofs.Families.{either, gains-within, round-more, within-gains, within-itself, within-within}
 
 -- how many numbers below n pass a test
 

@@ -1,7 +1,7 @@
 -- A sight that is reached stays so after an action, in a family to which one more round adds nothing.
-use Rattle.std.proofs.Common.{◌≡◌, ℕ, zero, suc, ◌<◌, ◌⊎◌, inl, inr, Bool, true, false, not, ◌&&◌, ◌||◌, if◌then◌else◌, nat_eq, Ordering, Less, Equal, Greater, List, [], ◌∷◌, ◌++◌, map, filter, length, slice_index_or, Option, Some, None, refl, sym, ap, subst, ◌∙◌, arith, true≢false}
+use Rattle.std.proofs.Common.{◌≡◌, ℕ, zero, suc, ◌<◌, ◌⊎◌, inl, inr, Bool, true, false, not, ◌&&◌, if◌then◌else◌, nat_eq, Ordering, Less, Greater, List, [], ◌∷◌, ◌++◌, map, filter, length, slice_index_or, Option, Some, None, refl, sym, ap, subst, ◌∙◌, arith, true≢false}
 use Rattle.std.specs.List.{Contains, flat_map, fold, list_all, list_any}
-use Rattle.std.proofs.lemmas.Bool.{and_from, and_parts, eqb-true, or_left, or_parts, or_right}
+use Rattle.std.proofs.lemmas.Bool.{and_from, and_parts, eqb-true, or_parts}
 use Rattle.std.proofs.lemmas.List.Folds.{list_all-append}
 use Rattle.mf_fraction.specs.Exact.{Number, Proper, sum_of, difference_of, product_of, quotient_of}
 use Rattle.mf_fraction.proofs.Algebra.{difference_of-proper, product_of-proper, quotient_of-proper, sum_of-proper}
@@ -15,15 +15,16 @@ use Rattle.mf_task.specs.declared.ground.GroundChange.TheVariants as change
 use Rattle.mf_task.specs.declared.ground.GroundEffect.{GroundEffect}
 use Rattle.mf_task.specs.declared.ground.GroundAction.{GroundAction}
 use Rattle.mf_task.specs.declared.task.Task.{Task}
-use Rattle.mf_task.specs.GroundMeaning.{action_firing, adds_atom, deletes_atom, form_at, ground_firing, ground_holds, is_ground_applicable, next_sight, optional_form_at, right_side, sign, value_after}
-use Rattle.mf_task.specs.LimitClosure.{Family, Gain, MayBeTrue, MayBeFalse, MayRise, MayFall, MayBeDefined, IsWithin, action_gains, change_gains, effect_gains, form_may_be_defined, gain_if, may_have_sign, may_hold, next_family, number_gains}
+use Rattle.mf_task.specs.GroundMeaning.{action_firing, adds_atom, deletes_atom, ground_firing, ground_holds, next_sight, optional_form_at, right_side, sign, value_after}
+use Rattle.mf_task.specs.LimitClosure.{Family, Gain, MayRise, MayFall, MayBeDefined, IsWithin, action_gains, change_gains, effect_gains, form_may_be_defined, gain_if, may_have_sign, may_hold, next_family, number_gains}
 use Rattle.mf_task.specs.LinearForms.{form_value, optional_form_value, weight}
 use Rattle.mf_task.specs.Rows.{Sight}
 use Rattle.mf_limit.specs.GroundRuns.{sight_after}
 use Rattle.mf_limit.specs.NumberedTasks.{HasProperForms, IsProperForm, IsProperSight}
-use Rattle.mf_limit.proofs.Families.{either, has, has-gains}
-use Rattle.mf_limit.proofs.FormSigns.{AreBoth, all-defined, both-summands, form-may, form-proper}
-use Rattle.mf_limit.proofs.Fractions.{before, before-either, before-less, before-more, toward}
+use Rattle.mf_limit.specs.Growth.{has}
+use Rattle.mf_limit.proofs.Families.{either, has-gains}
+use Rattle.mf_limit.proofs.FormSigns.{all-defined, both-summands, form-may, form-proper}
+use Rattle.mf_limit.proofs.Fractions.{before, before-either, before-less, before-more}
 use Rattle.mf_limit.proofs.Reached.{IsReached, Reaches, moves}
 use Rattle.mf_limit.proofs.Truths.{holds-may}
 

@@ -6,7 +6,7 @@ use Rattle.mf_fraction.specs.Exact.{Number}
 use Rattle.mf_model.specs.declared.task.Relation.{Relation}
 use Rattle.mf_model.specs.declared.truth.Truth.{Truth}
 use Rattle.mf_model.specs.declared.truth.Truth.TheVariants.{Yes, No, Neither}
-use Rattle.mf_model.specs.Meaning.{all_of, and_of, any_of, is_yes, not_of, or_of, truth_of}
+use Rattle.mf_model.specs.Meaning.{all_of, and_of, any_of, is_yes, not_of, truth_of}
 use Rattle.mf_task.specs.declared.form.Form.{Form}
 use Rattle.mf_task.specs.declared.ground.GroundCond.{GroundCond}
 use Rattle.mf_task.specs.declared.ground.GroundCond.TheOpen.{GroundCond-F}

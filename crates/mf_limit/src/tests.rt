@@ -1,0 +1,198 @@
+ghost use Rattle.mf_limit.specs.NumberedTasks.{is_numbered, is_numbered_action};
+ghost use Rattle.mf_task.specs.declared.task.Task.{Task};
+ghost use Rattle.std.specs.Prelude.{◌≡◌, ◌∷◌, [], length, true};
+
+use crate::dead;
+use mf_fraction::Frac;
+use mf_model::{Atom, Cell, Instance, List, Op, Relation};
+use mf_task::{Form, GroundAction, GroundChange, GroundCond, GroundEffect, Part, Row, Task};
+use sqlite_items::Items;
+use std::alloc::Global;
+use std::process::Abort;
+use std::test::Fail;
+
+// The forms of the tasks below, of their one term x.
+const OVER_A_THIRD: u32 = 0;
+
+const A_THIRD: u32 = 1;
+
+const X: u32 = 2;
+
+const OVER_TEN: u32 = 3;
+
+fn fraction(rt: &impl Abort, n: i64, d: i64) -> Frac {
+    match Frac::new(n, d) {
+        Ok(value) => value,
+        Err(_) => panic!(rt; "no fraction"),
+    }
+}
+
+fn one<T: Drop>(rt: &impl Abort, alloc: Global, item: T) -> List<T>
+    ensures { result ≡ item ∷ [] }
+{
+    let mut list = List::new(alloc);
+    match list.push(item) {
+        Ok(()) => list,
+        Err(_) => panic!(rt; "no memory"),
+    }
+}
+
+fn add_form(rt: &impl Abort, forms: &mut List<Form>, constant: Frac, coefficient: i64) {
+    let alloc = forms.allocator();
+    let parts = one(
+        rt,
+        alloc,
+        Part {
+            coefficient: fraction(rt, coefficient, 1),
+            term: 0,
+        },
+    );
+    match forms.push(Form { constant, parts }) {
+        Ok(()) => {}
+        Err(_) => panic!(rt; "no memory"),
+    }
+}
+
+// x - 1/3, 1/3 (and 0 for each x), x, and x - 10.
+fn forms(rt: &impl Abort, alloc: Global) -> List<Form> {
+    let mut forms = List::new(alloc);
+    add_form(rt, &mut forms, fraction(rt, -1, 3), 1);
+    add_form(rt, &mut forms, fraction(rt, 1, 3), 0);
+    add_form(rt, &mut forms, fraction(rt, 0, 1), 1);
+    add_form(rt, &mut forms, fraction(rt, -10, 1), 1);
+    forms
+}
+
+// An instance that changes x by 1/3.
+fn action(rt: &impl Abort, alloc: Global, condition: GroundCond, op: Op) -> GroundAction
+    ensures { (task : Task) → length task.terms ≡ 1 → is_numbered_action task result ≡ true }
+{
+    let effect = GroundEffect {
+        condition: GroundCond::Fact { holds: true },
+        change: GroundChange::Number {
+            op,
+            term: 0,
+            value: Some(A_THIRD),
+        },
+    };
+    GroundAction {
+        instance: Instance {
+            action: 0,
+            objects: List::new(alloc),
+        },
+        condition,
+        effects: one(rt, alloc, effect),
+    }
+}
+
+// A task of one atom, which nothing changes, and the term x.
+fn task(rt: &impl Abort, alloc: Global, action: GroundAction, goal: GroundCond) -> Task
+    requires { (task : Task) → length task.terms ≡ 1 → is_numbered_action task action ≡ true }
+    ensures numbered { is_numbered result ≡ true }
+    ensures terms { length result.terms ≡ 1 }
+{
+    let atom = Atom {
+        predicate: 0,
+        objects: List::new(alloc),
+    };
+    let term = Cell {
+        function: 0,
+        objects: List::new(alloc),
+    };
+    Task {
+        atoms: one(rt, alloc, atom),
+        terms: one(rt, alloc, term),
+        forms: forms(rt, alloc),
+        actions: one(rt, alloc, action),
+        goal: one(rt, alloc, goal),
+        start: row(rt, alloc),
+    }
+}
+
+fn row(rt: &impl Abort, alloc: Global) -> Row {
+    match Row::blank(alloc, 1, 1) {
+        Ok(row) => row,
+        Err(_) => panic!(rt; "no memory"),
+    }
+}
+
+// Whether the row in which the atom is false and x has this value is a dead end.
+fn is_dead_at(rt: &impl Abort, task: &Task, n: i64, d: i64) -> bool
+    requires numbered { is_numbered task.now ≡ true }
+    requires terms { length task.now.terms ≡ 1 }
+{
+    let alloc = task.terms.allocator();
+    let Ok(mut row) = task.blank_row(alloc) else {
+        panic!(rt; "no memory")
+    };
+    row.set_value(0, Some(fraction(rt, n, d)));
+    match dead(alloc, task, &row) {
+        Ok(dead) => dead,
+        Err(_) => panic!(rt; "no memory"),
+    }
+}
+
+fn push(rt: &impl Abort, parts: &mut Items<GroundCond>, part: GroundCond) {
+    match parts.push(part) {
+        Ok(()) => {}
+        Err(_) => panic!(rt; "no memory"),
+    }
+}
+
+fn either(rt: &impl Abort, alloc: Global, left: GroundCond, right: GroundCond) -> GroundCond {
+    let mut parts = Items::new(alloc);
+    push(rt, &mut parts, left);
+    push(rt, &mut parts, right);
+    GroundCond::Or { parts }
+}
+
+fn compare(relation: Relation, form: u32) -> GroundCond {
+    GroundCond::Compare { relation, form }
+}
+
+#[test]
+fn fuel_that_no_burn_may_take_is_a_dead_end(rt: HostRuntime) -> Result<(), Fail> {
+    let alloc = rt.alloc();
+    let burn = action(
+        &rt,
+        alloc,
+        compare(Relation::More, OVER_A_THIRD),
+        Op::Decrease,
+    );
+    let task = task(&rt, alloc, burn, compare(Relation::AtMost, X));
+    assert!(rt; is_dead_at(&rt, &task, 1, 3));
+    assert!(rt; !is_dead_at(&rt, &task, 2, 3));
+    Ok(())
+}
+
+#[test]
+fn a_count_that_goes_on_is_no_dead_end(rt: HostRuntime) -> Result<(), Fail> {
+    let alloc = rt.alloc();
+    let always = GroundCond::Fact { holds: true };
+    let count = action(&rt, alloc, always, Op::Increase);
+    let task = task(&rt, alloc, count, compare(Relation::AtLeast, OVER_TEN));
+    assert!(rt; !is_dead_at(&rt, &task, 0, 1));
+    Ok(())
+}
+
+#[test]
+fn an_atom_that_nothing_adds_is_a_dead_end(rt: HostRuntime) -> Result<(), Fail> {
+    let alloc = rt.alloc();
+    let always = GroundCond::Fact { holds: true };
+    let count = action(&rt, alloc, always, Op::Increase);
+    let task = task(&rt, alloc, count, GroundCond::Atom { atom: 0 });
+    assert!(rt; is_dead_at(&rt, &task, 0, 1));
+    Ok(())
+}
+
+#[test]
+fn one_part_of_an_or_is_enough(rt: HostRuntime) -> Result<(), Fail> {
+    let alloc = rt.alloc();
+    let always = GroundCond::Fact { holds: true };
+    let count = action(&rt, alloc, always, Op::Increase);
+    let atom = GroundCond::Atom { atom: 0 };
+    let goal = either(&rt, alloc, atom, compare(Relation::AtLeast, OVER_TEN));
+    let task = task(&rt, alloc, count, goal);
+    assert!(rt; !is_dead_at(&rt, &task, 0, 1));
+    Ok(())
+}
