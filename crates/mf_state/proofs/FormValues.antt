@@ -1,5 +1,5 @@
 -- The checked sum of a form's parts, step by step, beside the exact one.
-use Rattle.std.proofs.Common.{◌≡◌, ℕ, ◌<◌, ◌≤◌, Bool, true, false, ◌&&◌, cond, if◌then◌else◌, pos, List, [], ◌∷◌, length, get_or, slice_get, Option, Some, None, Result, Ok, Err, refl, sym, ap, ◌∙◌, rules}
+use Rattle.std.proofs.Common.{◌≡◌, ℕ, Bool, true, false, ◌&&◌, if◌then◌else◌, pos, List, [], ◌∷◌, slice_get, Option, Some, None, Ok, Err, refl, sym, ap, ◌∙◌}
 use Rattle.std.specs.Option.{unwrap_or}
 use Rattle.std.specs.Prelude.{is_some}
 use Rattle.std.proofs.lemmas.Option.{unwrap_or-slice_get}
@@ -15,7 +15,7 @@ use Rattle.mf_task.specs.declared.task.Task.{Task}
 use Rattle.mf_task.specs.GroundMeaning.{form_at}
 use Rattle.mf_task.specs.LinearForms.{constant_form, form_value, weight}
 use Rattle.mf_task.specs.Width as width
-use Rattle.mf_state.specs.Answers.{answer_of, checked_added, onward}
+use Rattle.mf_state.specs.Answers.{checked_added, onward}
 
 -- exact sums
 

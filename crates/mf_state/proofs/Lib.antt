@@ -1,3 +1,4 @@
-mod Loops
 mod FormValues
+mod Loops
+mod NarrowRows
 mod WideConditions

@@ -1,5 +1,5 @@
 -- The comparisons of a condition are those of its parts.
-use Rattle.std.proofs.Common.{◌≡◌, Bool, ◌||◌, List, [], ◌∷◌, map, refl, ap, sym, ◌∙◌, rules}
+use Rattle.std.proofs.Common.{◌≡◌, Bool, ◌||◌, List, [], ◌∷◌, map, refl, ap, ◌∙◌, rules}
 use Rattle.std.specs.List.{list_any}
 use Rattle.mf_task.specs.declared.ground.GroundCond.{GroundCond, the_lemmas}
 use Rattle.mf_task.specs.declared.ground.GroundCond.TheVariants.{And, Or}

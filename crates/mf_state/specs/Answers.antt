@@ -1,4 +1,4 @@
--- The value of a form as a call answers it.
+-- Values as calls answer them: those that do not fit are refused.
 use Rattle.std.specs.Prelude.{Option, Some, None, Result, Ok, Err}
 use Rattle.mf_fraction.specs.declared.faults.Wide.{Wide}
 use Rattle.mf_fraction.specs.Checked.{checked, wide}

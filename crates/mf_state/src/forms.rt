@@ -8,8 +8,8 @@ ghost use Rattle.std.specs.Prelude.{◌≡◌, IfOk, Some, pos};
 ghost use Rattle.mf_fraction.specs.Exact.{whole};
 
 use crate::reading::value_of;
-use mf_fraction::{Frac, Wide, add, mul};
 use mf_fraction::laws::stored_laws;
+use mf_fraction::{Frac, Wide, add, mul};
 use mf_task::{Form, Part, Row, Task};
 
 // The value at the row of the form of this number: undefined where a term is, else wide where a product or a partial sum

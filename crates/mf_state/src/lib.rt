@@ -2,6 +2,14 @@
 #![tactic(auto)]
 
 mod conditions;
+mod fault;
+mod first_row;
 mod forms;
+mod goal;
 mod reading;
 mod truth;
+mod width;
+
+pub use fault::{StartFault, StepFault};
+pub use first_row::start;
+pub use goal::is_goal;

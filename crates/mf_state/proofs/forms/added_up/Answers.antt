@@ -1,4 +1,4 @@
-use Rattle.std.proofs.Common.{◌+◌, rules, ap, sym, ◌∙◌, drop, List, Some, Option}
+use Rattle.std.proofs.Common.{◌+◌, ap, sym, ◌∙◌, drop, List, Some}
 use Rattle.std.proofs.Math.ListN.{drop_of_length-le}
 use Rattle.mf_fraction.specs.Exact.{Number}
 use Rattle.mf_model.specs.Meaning.{plus}
