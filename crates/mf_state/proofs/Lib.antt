@@ -1,4 +1,5 @@
 mod FormValues
+mod KeptValues
 mod Loops
 mod NarrowRows
 mod WideConditions
