@@ -1,3 +1,4 @@
+mod Effects
 mod FormValues
 mod KeptValues
 mod Loops
