@@ -3,4 +3,6 @@ mod FormValues
 mod KeptValues
 mod Loops
 mod NarrowRows
+mod NextSights
+mod OneMore
 mod WideConditions

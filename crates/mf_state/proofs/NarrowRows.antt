@@ -1,5 +1,6 @@
 -- Where no place is wide, the row is narrow.
 use Rattle.std.proofs.Common.{◌≡◌, ℕ, ◌+◌, Bool, true, false, not, ◌||◌, if◌then◌else◌, List, [], ◌∷◌, Option, Some, None, refl, ap}
+use Rattle.std.specs.Prelude.{is_some}
 use Rattle.std.specs.List.{list_any}
 use Rattle.mf_task.specs.declared.ground.GroundAction.{GroundAction}
 use Rattle.mf_task.specs.declared.place.Place.{Place}
@@ -34,3 +35,10 @@ module _ (task : Task) (sight : Sight) where
   pub wide_somewhere : (found : Place) → wide_place task sight ≡ Some found → is_narrow task sight ≡ false
   wide_somewhere found e =
       ap not (some_by (is_wide_goal task sight) Goal (place_from task sight 0 task.actions) (list_any (is_wide_action task sight) task.actions) found (some_from 0 task.actions found) e)
+
+  narrow_by : (o : Option Place) → wide_place task sight ≡ o → is_narrow task sight ≡ not (is_some o)
+  narrow_by None e = narrow_nowhere e
+  narrow_by (Some place) e = wide_somewhere place e
+
+  pub narrow_is : is_narrow task sight ≡ not (is_some (wide_place task sight))
+  narrow_is = narrow_by (wide_place task sight) refl

@@ -1,5 +1,5 @@
 -- How the changes of an action go into a row, one by one.
-use Rattle.std.specs.Prelude.{ℕ, Bool, ◌||◌, ◌&&◌, not, List, get_or, Option, Some, None}
+use Rattle.std.specs.Prelude.{ℕ, Bool, ◌||◌, not, List, get_or, Option, Some, None}
 use Rattle.std.specs.List.{fold, list_any}
 use Rattle.mf_fraction.specs.Exact.{Number}
 use Rattle.mf_task.specs.declared.ground.GroundChange.{GroundChange}

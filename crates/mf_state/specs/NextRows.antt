@@ -1,5 +1,5 @@
 -- The next rows: the applicable live instances in order, and the row to which each leads.
-use Rattle.std.specs.Prelude.{◌≡◌, ℕ, ◌+◌, Bool, ◌&&◌, true, false, if◌then◌else◌, List, [], ◌∷◌, ◌++◌, map, Option, Some, None, Result, Ok, Err, IfSome, slice_get}
+use Rattle.std.specs.Prelude.{◌≡◌, ℕ, ◌+◌, Bool, ◌&&◌, true, false, if◌then◌else◌, List, [], ◌∷◌, ◌++◌, map, Some, None, Result, Ok, Err, IfSome, slice_get}
 use Rattle.std.specs.List.{All}
 use Rattle.mf_store.specs.Rows.{RowLists}
 use Rattle.mf_task.specs.declared.ground.GroundAction.{GroundAction}

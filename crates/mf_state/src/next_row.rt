@@ -152,12 +152,7 @@ fn change_values(
     Ok(())
 }
 
-fn change_value(
-    task: &Task,
-    row: &Row,
-    effect: &GroundEffect,
-    next: &mut Row,
-) -> Result<(), Wide>
+fn change_value(task: &Task, row: &Row, effect: &GroundEffect, next: &mut Row) -> Result<(), Wide>
     requires shape { IsRowOf task.now next.old }
     requires narrow { is_wide_cond task.now (sight_of row.now) effect.now.condition ≡ false }
     requires sound { is_sound_change task.now effect.now.change ≡ true }

@@ -1,4 +1,4 @@
-use Rattle.std.proofs.Common.{◌≡◌, ap, sym, ℕ, Option, IfErr, subst, true}
+use Rattle.std.proofs.Common.{◌≡◌, sym, ℕ, Option, IfErr, subst, true}
 use Rattle.std.specs.Prelude.{is_some}
 use Rattle.mf_task.specs.GroundMeaning.{form_at, right_side}
 use Rattle.mf_task.specs.Rows.{sight_of}

@@ -1,5 +1,4 @@
-use Rattle.std.proofs.Common.{◌+◌, ap, Bool, List, drop, sym, ◌∙◌}
-use Rattle.std.specs.Prelude.{is_err}
+use Rattle.std.proofs.Common.{◌+◌, ap, List, drop, sym, ◌∙◌}
 use Rattle.mf_task.specs.declared.ground.GroundEffect.{GroundEffect}
 use Rattle.mf_task.specs.GroundMeaning.{ground_firing}
 use Rattle.mf_task.specs.Rows.{sight_of}
