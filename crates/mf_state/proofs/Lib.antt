@@ -1,0 +1,8 @@
+mod Effects
+mod FormValues
+mod KeptValues
+mod Loops
+mod NarrowRows
+mod NextSights
+mod OneMore
+mod WideConditions

@@ -1,0 +1,5 @@
+pub mod Answers
+pub mod Changing
+pub mod NextRows
+pub mod Outcomes
+pub mod PackedTasks
