@@ -6,3 +6,5 @@ mod LayerExamples
 mod PlanExamples
 mod ActionExamples
 mod GroundExamples
+mod AtomTasks
+mod AtomPlans
