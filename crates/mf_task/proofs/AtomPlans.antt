@@ -1,6 +1,6 @@
 -- The layers, relaxed plans, values and helpful instances of tasks whose preconditions are lists of atoms and whose effects
 -- have no conditions.
-use Rattle.std.proofs.Common.{◌≡◌, ℕ, zero, suc, ◌+◌, Bool, true, false, ◌&&◌, if◌then◌else◌, nat_eq, List, [], ◌∷◌, ◌++◌, map, filter, Option, Some, None, refl, sym, subst, ap, ap₂, ◌∙◌}
+use Rattle.std.proofs.Common.{◌≡◌, ℕ, zero, suc, ◌+◌, Bool, true, false, ◌&&◌, not, if◌then◌else◌, nat_eq, List, [], ◌∷◌, ◌++◌, map, filter, Option, Some, None, refl, sym, subst, ap, ap₂, ◌∙◌}
 use Rattle.std.specs.Prelude.{⊤, find, slice_get, take}
 use Rattle.std.specs.List.{AllByRecursion, flat_map, fold, list_any}
 use Rattle.mf_task.specs.declared.form.Form.{Form}
@@ -9,10 +9,10 @@ use Rattle.mf_task.specs.declared.ground.GroundCond.TheVariants as node
 use Rattle.mf_task.specs.declared.ground.GroundAction.{GroundAction}
 use Rattle.mf_task.specs.declared.task.Task.{Task}
 use Rattle.mf_task.specs.declared.value.HeuristicKind.TheVariants.{Ff}
-use Rattle.mf_task.specs.HeuristicValues.{helpful_of, state_value, value_without_level}
-use Rattle.mf_task.specs.Layers.{FiringEffect, Layer, Want, all_layers, all_levels, first_layer, firing_at, goal_level, has_range, layer_at, layers_to, level_of, listed, next_layer_by}
+use Rattle.mf_task.specs.HeuristicValues.{helpful_of, length_at, live_value, state_value}
+use Rattle.mf_task.specs.Layers.{FiringEffect, Layer, Want, all_layers, all_levels, first_layer, firing_at, firing_from, goal_level, has_range, layer_at, layers_to, level_of, listed, next_layer_by}
 use Rattle.mf_task.specs.LimitClosure.{is_dead}
-use Rattle.mf_task.specs.RelaxedPlan.{AtomNeed, FormNeed, LayerNeed, Need, Relaxation, Relaxed, Service, Serving, Step, at_layer, at_this_layer, condition_of_action, effect_fits, fired_at, form_service, helpful_from, is_counted_part, is_helpful, needs_after, needs_of_effect, plan_length, relaxation_of, relaxed_at, relaxed_from, relaxed_plan, required, selected_in, served, serves_atom, services, take_term, want_for, with_assign}
+use Rattle.mf_task.specs.RelaxedPlan.{AtomNeed, FormNeed, LayerNeed, Need, Relaxation, Relaxed, Service, Serving, Step, at_layer, at_this_layer, condition_of_action, effect_fits, fired_at, form_service, helpful_from, helpful_instances, is_counted_part, is_helpful, needs_after, needs_of_effect, plan_length, relaxation_of, relaxed_at, relaxed_from, relaxed_plan, required, selected_in, served, serves_atom, services, take_term, want_for, with_assign}
 use Rattle.mf_task.specs.Rows.{Sight}
 use Rattle.mf_task.proofs.AtomTasks.{AtomAction, action_of, applicable-atoms, atoms_applicable, atoms_firing, atoms_needs, first_layers, firing-atoms, later_by, required-atoms, required-true}
 
@@ -75,13 +75,16 @@ module _ (task : Task) (actions : List AtomAction) (are : task.actions ≡ map a
     abbrev HasNoCondition : FiringEffect → Type 0
     HasNoCondition effect = effect.condition ≡ node.Fact true
 
-    found : (acts : List AtomAction) (n : ℕ) → flat_map (required r) (condition_of_action (map action_of acts) n) ≡ flat_map (λ a. atoms_needs r a.needs) (listed (slice_get acts n))
-    found [] n = refl
-    found (a ∷ others) zero = ap (λ needs. needs ++ []) (required-atoms r a.needs)
+    found : (acts : List AtomAction) (n : ℕ) → flat_map (required r) (condition_of_action (map action_of acts) n ++ node.Fact true ∷ []) ≡ flat_map (λ a. atoms_needs r a.needs) (listed (slice_get acts n))
+    found [] n = ap (λ needs. needs ++ []) (required-true r)
+    found (a ∷ others) zero = ap₂ (λ (needs none : List LayerNeed). needs ++ (none ++ [])) (required-atoms r a.needs) (required-true r)
     found (a ∷ others) (suc n) = found others n
 
     one_asks : (effect : FiringEffect) → HasNoCondition effect → needs_of_effect r effect ≡ asks effect
-    one_asks effect none = ?
+    one_asks effect none =
+        ap (λ (all : List GroundAction). flat_map (required r) (condition_of_action all effect.action ++ effect.condition ∷ [])) are
+        ∙ ap (λ (c : GroundCond). flat_map (required r) (condition_of_action (map action_of actions) effect.action ++ c ∷ [])) none
+        ∙ found actions effect.action
 
     all_ask : (effects : List FiringEffect) → AllByRecursion HasNoCondition effects → flat_map (needs_of_effect r) effects ≡ flat_map asks effects
     all_ask [] none = refl
@@ -120,6 +123,78 @@ module _ (task : Task) (actions : List AtomAction) (are : task.actions ≡ map a
     helpful_here needs n [] = []
     helpful_here needs n (a ∷ others) = if is_helpful_here needs n a then n ∷ helpful_here needs (n + 1) others else helpful_here needs (n + 1) others
 
+    helpful_is : (needs : List LayerNeed) (n : ℕ) (a : AtomAction) → is_helpful r needs n (action_of a) ≡ is_helpful_here needs n a
+    helpful_is needs n a =
+        ap₂ (λ (b : Bool) (firing : List FiringEffect). b && list_any (λ effect. nat_eq n effect.action && list_any (λ need. effect_fits r effect need.need) needs) firing) (applicable-atoms task sight a) (fires (take 1 layers))
+
     helpful_are : (needs : List LayerNeed) (n : ℕ) (acts : List AtomAction) → helpful_from r needs n (map action_of acts) ≡ helpful_here needs n acts
     helpful_are needs n [] = refl
-    helpful_are needs n (a ∷ others) = ?
+    helpful_are needs n (a ∷ others) = ap₂ (λ (b : Bool) (rest : List ℕ). if b then n ∷ rest else rest) (helpful_is needs n a) (helpful_are needs (n + 1) others)
+
+    -- values
+
+    abbrev pub level_here : Option ℕ
+    level_here = all_levels (map (level_of task layers) task.goal)
+
+    abbrev pub goal_needs : List LayerNeed
+    goal_needs = flat_map (required r) task.goal
+
+    module _ (alive : is_dead task sight ≡ false) (all : all_layers task sight ≡ layers) (level : ℕ) (has_level : level_here ≡ Some level) (needs : List LayerNeed) (needed : goal_needs ≡ needs) (free : AreUnguarded level needs) where
+      goal_has_level : goal_level task sight ≡ Some level
+      goal_has_level = ap (λ (ls : List Layer). all_levels (map (level_of task ls) task.goal)) all ∙ has_level
+
+      plan_is : relaxed_plan task sight ≡ atoms_relaxed level needs []
+      plan_is =
+          ap (relaxed_at (relaxation_of task sight)) goal_has_level
+          ∙ ap (λ (ls : List Layer). relaxed_from (relaxation_in ls) level (flat_map (required (relaxation_in ls)) task.goal) []) all
+          ∙ ap (λ (ns : List LayerNeed). relaxed_from r level ns []) needed
+          ∙ relaxed_is level needs [] free
+
+      pub value_is : state_value Ff task sight ≡ Some (plan_length (atoms_relaxed level needs []))
+      value_is =
+          ap (λ (b : Bool). if b then None else Some (live_value Ff task sight)) alive
+          ∙ ap (λ (l : Option ℕ). Some (length_at task sight l)) goal_has_level
+          ∙ ap (λ plan. Some (plan_length plan)) plan_is
+
+      pub helpful_instances_are : helpful_of Ff task sight ≡ helpful_here (at_this_layer 1 (atoms_relaxed level needs []).needs) 0 actions
+      helpful_instances_are =
+          ap (λ (b : Bool). if b then [] else helpful_instances task sight) alive
+          ∙ ap (λ (plan : Relaxed). helpful_from (relaxation_of task sight) (at_this_layer 1 plan.needs) 0 task.actions) plan_is
+          ∙ ap (λ (ls : List Layer). helpful_from (relaxation_in ls) (at_this_layer 1 (atoms_relaxed level needs []).needs) 0 task.actions) all
+          ∙ ap (λ (acts : List GroundAction). helpful_from r (at_this_layer 1 (atoms_relaxed level needs []).needs) 0 acts) are
+          ∙ helpful_are (at_this_layer 1 (atoms_relaxed level needs []).needs) 0 actions
+
+  -- all layers begin with the first ones
+  pub all_begin : (more n : ℕ) → later_by more n ≡ 1000 → (rest : List Layer) × (all_layers task sight ≡ atoms_layers n ++ rest)
+  all_begin more n far =
+      let begin = first_layers task sight n more in
+      (begin.0, ap (λ (k : ℕ). layers_to task sight k) (sym far) ∙ begin.1 ∙ ap (λ (ls : List Layer). ls ++ begin.0) (layers_are n))
+
+  -- what is so of a state whatever layers follow the first n: the level of the goal, its needs, the length of the relaxed plan and
+  -- the helpful instances
+  pub record HasPlan (goal_level_in : List Layer → Option ℕ) (goal_needs_in : List Layer → List LayerNeed) (n level value : ℕ) (needs : List LayerNeed) (helpful : List ℕ) : Type 0 where
+    pub level_is : (layers : List Layer) → level_here layers ≡ goal_level_in layers
+    pub needs_are : (layers : List Layer) → goal_needs layers ≡ goal_needs_in layers
+    pub is_alive : is_dead task sight ≡ false
+    pub has_level : (rest : List Layer) → goal_level_in (atoms_layers n ++ rest) ≡ Some level
+    pub has_needs : (rest : List Layer) → goal_needs_in (atoms_layers n ++ rest) ≡ needs
+    pub free : (rest : List Layer) → AreUnguarded (atoms_layers n ++ rest) level needs
+    pub has_length : (rest : List Layer) → plan_length (atoms_relaxed (atoms_layers n ++ rest) level needs []) ≡ value
+    pub are_helpful : (rest : List Layer) → helpful_here (atoms_layers n ++ rest) (at_this_layer 1 (atoms_relaxed (atoms_layers n ++ rest) level needs []).needs) 0 actions ≡ helpful
+
+  module _ {goal_level_in : List Layer → Option ℕ} {goal_needs_in : List Layer → List LayerNeed} {n level value : ℕ} {needs : List LayerNeed} {helpful : List ℕ} (has : HasPlan goal_level_in goal_needs_in n level value needs helpful) (more : ℕ) (far : later_by more n ≡ 1000) where
+    abbrev rest : List Layer
+    rest = (all_begin more n far).0
+
+    abbrev all : List Layer
+    all = atoms_layers n ++ rest
+
+    pub planned_value : state_value Ff task sight ≡ Some value
+    planned_value =
+        value_is all has.is_alive (all_begin more n far).1 level (has.level_is all ∙ has.has_level rest) needs (has.needs_are all ∙ has.has_needs rest) (has.free rest)
+        ∙ ap (λ (k : ℕ). Some k) (has.has_length rest)
+
+    pub planned_helpful : helpful_of Ff task sight ≡ helpful
+    planned_helpful =
+        helpful_instances_are all has.is_alive (all_begin more n far).1 level (has.level_is all ∙ has.has_level rest) needs (has.needs_are all ∙ has.has_needs rest) (has.free rest)
+        ∙ has.are_helpful rest

@@ -2,9 +2,11 @@
 -- conditions as trees.
 use Rattle.std.proofs.Common.{◌≡◌, ℕ, zero, suc, ◌+◌, Bool, true, false, ◌&&◌, ◌||◌, not, if◌then◌else◌, List, [], ◌∷◌, ◌++◌, map, filter, Option, Some, None, refl, sym, ap, ap₂, ◌∙◌, rules}
 use Rattle.std.specs.Prelude.{position, is_some, slice_get}
-use Rattle.std.specs.List.{flat_map, list_all, list_any}
+use Rattle.std.specs.List.{flat_map, list_all, list_any, position_from}
+use Rattle.std.proofs.lemmas.Iterator.Adapters.{position_from-zero}
 use Rattle.std.proofs.lemmas.List.{append-nil, append_assoc}
 use Rattle.mf_model.specs.declared.state.Instance.{Instance}
+use Rattle.mf_model.specs.declared.task.Relation.{Relation}
 use Rattle.mf_model.specs.Meaning.{all_of, is_yes, truth_of}
 use Rattle.mf_task.specs.declared.ground.GroundCond.{GroundCond, fold-GroundCond, the_lemmas}
 use Rattle.mf_task.specs.declared.ground.GroundCond.TheVariants as node
@@ -13,10 +15,10 @@ use Rattle.mf_task.specs.declared.ground.GroundChange.{GroundChange}
 use Rattle.mf_task.specs.declared.ground.GroundEffect.{GroundEffect}
 use Rattle.mf_task.specs.declared.ground.GroundAction.{GroundAction}
 use Rattle.mf_task.specs.declared.task.Task.{Task}
-use Rattle.mf_task.specs.GroundMeaning.{action_firing, ground_firing, ground_holds, ground_truth_step, is_ground_applicable, is_ground_apart, is_ground_defined}
-use Rattle.mf_task.specs.Layers.{FiringEffect, Layer, and_level, atom_is_met, effect_fires, firing_at, firing_from, layer_at, layers_to, level_of, level_step, next_layer_by}
-use Rattle.mf_task.specs.LimitClosure.{Family, Gain, action_gains, all_may, atom_may, change_gains, effect_gains, family_after, first_family, gives_true, may_hold, may_step, next_family, with_gains}
-use Rattle.mf_task.specs.RelaxedPlan.{LayerNeed, Relaxation, Requirement, and_needs, atom_needs, required, require_step}
+use Rattle.mf_task.specs.GroundMeaning.{form_at, ground_firing, ground_holds, ground_truth_step, is_ground_applicable, is_ground_apart, is_ground_defined}
+use Rattle.mf_task.specs.Layers.{FiringEffect, Layer, and_level, atom_is_met, effect_fires, firing_at, firing_from, form_is_met, layer_at, layers_to, level_of, level_step, next_layer_by, want_of}
+use Rattle.mf_task.specs.LimitClosure.{Family, Gain, action_gains, all_may, atom_may, change_gains, effect_gains, family_after, first_family, gives_true, may_compare, may_hold, may_step, next_family, with_gains}
+use Rattle.mf_task.specs.RelaxedPlan.{LayerNeed, Relaxation, Requirement, and_needs, atom_needs, form_needs, required, require_step}
 use Rattle.mf_task.specs.Rows.{Sight}
 
 -- an instance, the atoms that it needs, and its changes
@@ -38,6 +40,9 @@ module _ (R : Type 0) (step : GroundCond-F R → R) where
   pub at_atom : (n : ℕ) → fold-GroundCond R step (node.Atom n) ≡ step (GroundCond-F.Atom n)
   at_atom n = search (rules, the_lemmas)
 
+  pub at_compare : (relation : Relation) (form : ℕ) → fold-GroundCond R step (node.Compare relation form) ≡ step (GroundCond-F.Compare relation form)
+  at_compare relation form = search (rules, the_lemmas)
+
   at_and : (parts : List GroundCond) → fold-GroundCond R step (node.And parts) ≡ step (GroundCond-F.And (map (fold-GroundCond R step) parts))
   at_and parts = search (rules, the_lemmas)
 
@@ -53,17 +58,36 @@ module _ (R : Type 0) (step : GroundCond-F R → R) where
 
 -- levels
 
+-- the first layer that meets an atom, counted from the first of these layers on
+abbrev pub first_where : (Layer → Bool) → List Layer → Option ℕ
+first_where test layers = position_from test 0 layers
+
+first_is_position : position {X = Layer} ≡ first_where
+first_is_position = λ i test layers. position_from-zero test layers i
+
 abbrev pub atom_level : List Layer → ℕ → Bool → Option ℕ
-atom_level layers n asked = position (atom_is_met n asked) layers
+atom_level layers n asked = first_where (atom_is_met n asked) layers
 
 abbrev pub atoms_level : List Layer → List ℕ → Option ℕ
 atoms_level layers atoms = and_level (map (atom_level layers) atoms) true
 
 pub level-atoms : (task : Task) (layers : List Layer) (atoms : List ℕ) → level_of task layers (all_atoms atoms) ≡ atoms_level layers atoms
-level-atoms task layers atoms = ap (λ (level : Bool → Option ℕ). level true) (at_all (Bool → Option ℕ) (level_step task layers) atoms)
+level-atoms task layers atoms =
+    ap (λ (level : Bool → Option ℕ). level true) (at_all (Bool → Option ℕ) (level_step task layers) atoms)
+    ∙ ap (λ (first : (Layer → Bool) → List Layer → Option ℕ). and_level (map (λ (n : ℕ) (asked : Bool). first (atom_is_met n asked) layers) atoms) true) first_is_position
 
 pub level-true : (task : Task) (layers : List Layer) → level_of task layers (node.Fact true) ≡ Some 0
 level-true task layers = ap (λ (level : Bool → Option ℕ). level true) (at_true (Bool → Option ℕ) (level_step task layers))
+
+pub level-atom : (task : Task) (layers : List Layer) (n : ℕ) → level_of task layers (node.Atom n) ≡ atom_level layers n true
+level-atom task layers n =
+    ap (λ (level : Bool → Option ℕ). level true) (at_atom (Bool → Option ℕ) (level_step task layers) n)
+    ∙ ap (λ (first : (Layer → Bool) → List Layer → Option ℕ). first (atom_is_met n true) layers) first_is_position
+
+pub level-compare : (task : Task) (layers : List Layer) (relation : Relation) (form : ℕ) → level_of task layers (node.Compare relation form) ≡ first_where (λ layer. form_is_met layer (want_of true relation) (form_at task form)) layers
+level-compare task layers relation form =
+    ap (λ (level : Bool → Option ℕ). level true) (at_compare (Bool → Option ℕ) (level_step task layers) relation form)
+    ∙ ap (λ (first : (Layer → Bool) → List Layer → Option ℕ). first (λ layer. form_is_met layer (want_of true relation) (form_at task form)) layers) first_is_position
 
 -- firing effects
 
@@ -106,23 +130,35 @@ applicable-atoms task sight a =
 
 -- needs
 
-abbrev pub needed_atom : Relaxation → ℕ → Requirement
-needed_atom r n = record {
-  level = λ asked. position (atom_is_met n asked) r.layers;
-  needs = λ asked. atom_needs n asked (position (atom_is_met n asked) r.layers);
+abbrev needed_by : ((Layer → Bool) → List Layer → Option ℕ) → Relaxation → ℕ → Requirement
+needed_by first r n = record {
+  level = λ asked. first (atom_is_met n asked) r.layers;
+  needs = λ asked. atom_needs n asked (first (atom_is_met n asked) r.layers);
 }
+
+abbrev pub needed_atom : Relaxation → ℕ → Requirement
+needed_atom = needed_by first_where
 
 abbrev pub atoms_needs : Relaxation → List ℕ → List LayerNeed
 atoms_needs r atoms = and_needs (map (needed_atom r) atoms) true
 
 pub required-atoms : (r : Relaxation) (atoms : List ℕ) → required r (all_atoms atoms) ≡ atoms_needs r atoms
-required-atoms r atoms = ap (λ (q : Requirement). q.needs true) (at_all Requirement (require_step r) atoms)
+required-atoms r atoms =
+    ap (λ (q : Requirement). q.needs true) (at_all Requirement (require_step r) atoms)
+    ∙ ap (λ (first : (Layer → Bool) → List Layer → Option ℕ). and_needs (map (needed_by first r) atoms) true) first_is_position
 
 pub required-true : (r : Relaxation) → required r (node.Fact true) ≡ []
 required-true r = ap (λ (q : Requirement). q.needs true) (at_true Requirement (require_step r))
 
 pub required-atom : (r : Relaxation) (n : ℕ) → required r (node.Atom n) ≡ (needed_atom r n).needs true
-required-atom r n = ap (λ (q : Requirement). q.needs true) (at_atom Requirement (require_step r) n)
+required-atom r n =
+    ap (λ (q : Requirement). q.needs true) (at_atom Requirement (require_step r) n)
+    ∙ ap (λ (first : (Layer → Bool) → List Layer → Option ℕ). (needed_by first r n).needs true) first_is_position
+
+pub required-compare : (r : Relaxation) (relation : Relation) (form : ℕ) → required r (node.Compare relation form) ≡ form_needs r (want_of true relation) (form_at r.task form) (first_where (λ layer. form_is_met layer (want_of true relation) (form_at r.task form)) r.layers)
+required-compare r relation form =
+    ap (λ (q : Requirement). q.needs true) (at_compare Requirement (require_step r) relation form)
+    ∙ ap (λ (first : (Layer → Bool) → List Layer → Option ℕ). form_needs r (want_of true relation) (form_at r.task form) (first (λ layer. form_is_met layer (want_of true relation) (form_at r.task form)) r.layers)) first_is_position
 
 -- the limit closure
 
@@ -131,6 +167,12 @@ all_may_hold task sight family atoms = ap (λ (may : Bool → Bool). may true) (
 
 true_may_hold : (task : Task) (sight : Sight) (family : Family) → may_hold task sight family (node.Fact true) ≡ true
 true_may_hold task sight family = ap (λ (may : Bool → Bool). may true) (at_true (Bool → Bool) (may_step task sight family))
+
+pub atom-may_hold : (task : Task) (sight : Sight) (family : Family) (n : ℕ) → may_hold task sight family (node.Atom n) ≡ family.yes n
+atom-may_hold task sight family n = ap (λ (may : Bool → Bool). may true) (at_atom (Bool → Bool) (may_step task sight family) n)
+
+pub compare-may_hold : (task : Task) (sight : Sight) (family : Family) (relation : Relation) (form : ℕ) → may_hold task sight family (node.Compare relation form) ≡ may_compare sight family relation (form_at task form) true
+compare-may_hold task sight family relation form = ap (λ (may : Bool → Bool). may true) (at_compare (Bool → Bool) (may_step task sight family) relation form)
 
 abbrev atoms_gains : Task → Sight → Family → AtomAction → List Gain
 atoms_gains task sight family a =

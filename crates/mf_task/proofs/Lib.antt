@@ -8,3 +8,4 @@ mod ActionExamples
 mod GroundExamples
 mod AtomTasks
 mod AtomPlans
+mod RoomsExamples
