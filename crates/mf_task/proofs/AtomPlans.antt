@@ -1,6 +1,6 @@
 -- The layers, relaxed plans, values and helpful instances of tasks whose preconditions are lists of atoms and whose effects
 -- have no conditions.
-use Rattle.std.proofs.Common.{◌≡◌, ℕ, zero, suc, ◌+◌, Bool, true, false, ◌&&◌, not, if◌then◌else◌, nat_eq, List, [], ◌∷◌, ◌++◌, map, filter, Option, Some, None, refl, sym, subst, ap, ap₂, ◌∙◌}
+use Rattle.std.proofs.Common.{◌≡◌, ℕ, zero, suc, ◌+◌, Bool, true, false, ◌&&◌, not, if◌then◌else◌, nat_eq, List, [], ◌∷◌, ◌++◌, map, filter, Option, Some, None, refl, sym, ap, ap₂, ◌∙◌}
 use Rattle.std.specs.Prelude.{⊤, find, slice_get, take}
 use Rattle.std.specs.List.{AllByRecursion, flat_map, fold, list_any}
 use Rattle.mf_task.specs.declared.form.Form.{Form}
@@ -12,7 +12,7 @@ use Rattle.mf_task.specs.declared.value.HeuristicKind.TheVariants.{Ff}
 use Rattle.mf_task.specs.HeuristicValues.{helpful_of, length_at, live_value, state_value}
 use Rattle.mf_task.specs.Layers.{FiringEffect, Layer, Want, all_layers, all_levels, first_layer, firing_at, firing_from, goal_level, has_range, layer_at, layers_to, level_of, listed, next_layer_by}
 use Rattle.mf_task.specs.LimitClosure.{is_dead}
-use Rattle.mf_task.specs.RelaxedPlan.{AtomNeed, FormNeed, LayerNeed, Need, Relaxation, Relaxed, Service, Serving, Step, at_layer, at_this_layer, condition_of_action, effect_fits, fired_at, form_service, helpful_from, helpful_instances, is_counted_part, is_helpful, needs_after, needs_of_effect, plan_length, relaxation_of, relaxed_at, relaxed_from, relaxed_plan, required, selected_in, served, serves_atom, services, take_term, want_for, with_assign}
+use Rattle.mf_task.specs.RelaxedPlan.{AtomNeed, FormNeed, LayerNeed, Need, Relaxation, Relaxed, Service, Serving, Step, at_layer, at_this_layer, condition_of_action, effect_fits, form_service, helpful_from, helpful_instances, is_counted_part, is_helpful, needs_after, needs_of_effect, plan_length, relaxation_of, relaxed_at, relaxed_from, relaxed_plan, required, selected_in, served, serves_atom, take_term, want_for, with_assign}
 use Rattle.mf_task.specs.Rows.{Sight}
 use Rattle.mf_task.proofs.AtomTasks.{AtomAction, action_of, applicable-atoms, atoms_applicable, atoms_firing, atoms_needs, first_layers, firing-atoms, later_by, required-atoms, required-true}
 

@@ -1,7 +1,7 @@
 -- Tasks whose preconditions are lists of atoms and whose effects have no conditions: what the definitions say of them, without
 -- conditions as trees.
-use Rattle.std.proofs.Common.{◌≡◌, ℕ, zero, suc, ◌+◌, Bool, true, false, ◌&&◌, ◌||◌, not, if◌then◌else◌, List, [], ◌∷◌, ◌++◌, map, filter, Option, Some, None, refl, sym, ap, ap₂, ◌∙◌, rules}
-use Rattle.std.specs.Prelude.{position, is_some, slice_get}
+use Rattle.std.proofs.Common.{◌≡◌, ℕ, zero, suc, ◌+◌, Bool, true, ◌&&◌, ◌||◌, if◌then◌else◌, List, [], ◌∷◌, ◌++◌, map, filter, Option, Some, refl, sym, ap, ap₂, ◌∙◌, rules}
+use Rattle.std.specs.Prelude.{position, is_some}
 use Rattle.std.specs.List.{flat_map, list_all, list_any, position_from}
 use Rattle.std.proofs.lemmas.Iterator.Adapters.{position_from-zero}
 use Rattle.std.proofs.lemmas.List.{append-nil, append_assoc}

@@ -9,3 +9,4 @@ mod GroundExamples
 mod AtomTasks
 mod AtomPlans
 mod RoomsExamples
+mod CountExamples

@@ -2,7 +2,7 @@
 -- `(at-robot roomb)`, `(at ball1 rooma)`, `(at ball1 roomb)`, `(holding ball1)` and `(free)`, with the numbers 0 to 5, and the
 -- goal is `(at ball1 roomb)`. Five of its states, with their values and their helpful instances by `ff`.
 use Rattle.std.proofs.Common.{◌≡◌, ℕ, ◌+◌, false, true, not, ◌&&◌, nat_eq, List, [], ◌∷◌, ◌++◌, map, Option, Some, None, refl, sym, ap, ◌∙◌}
-use Rattle.std.specs.List.{flat_map, list_all, list_any}
+use Rattle.std.specs.List.{list_any}
 use Rattle.mf_model.specs.declared.state.Instance.{Instance}
 use Rattle.mf_task.specs.declared.ground.GroundCond.TheVariants as node
 use Rattle.mf_task.specs.declared.ground.GroundChange.TheVariants.{Add, Delete}
