@@ -108,3 +108,24 @@ value_9 = planned_value count actions refl (with_number 9) plan_9 999 refl
 
 helpful_9 : helpful_of Ff count (with_number 9) ≡ 0 ∷ []
 helpful_9 = planned_helpful count actions refl (with_number 9) plan_9 999 refl
+
+-- the value 10 at 0
+
+plan_0 : Planned (with_number 0) 10 10 (goal_at 10) (0 ∷ [])
+unfolding fits sum_of difference_of product_of negative_of reduce gcd order_of is_below
+plan_0 = record {
+  level_is = level_is (with_number 0);
+  needs_are = needs_are (with_number 0);
+  is_alive = alive (with_number 0) refl;
+  has_level = λ rest. refl;
+  has_needs = λ rest. refl;
+  free = λ rest. ((refl, tt), ((refl, tt), ((refl, tt), ((refl, tt), ((refl, tt), ((refl, tt), ((refl, tt), ((refl, tt), ((refl, tt), ((refl, tt), tt))))))))));
+  has_length = λ rest. refl;
+  are_helpful = λ rest. refl;
+}
+
+value_0 : state_value Ff count (with_number 0) ≡ Some 10
+value_0 = planned_value count actions refl (with_number 0) plan_0 990 refl
+
+helpful_0 : helpful_of Ff count (with_number 0) ≡ 0 ∷ []
+helpful_0 = planned_helpful count actions refl (with_number 0) plan_0 990 refl
