@@ -6,3 +6,7 @@ mod LayerExamples
 mod PlanExamples
 mod ActionExamples
 mod GroundExamples
+mod AtomTasks
+mod AtomPlans
+mod RoomsExamples
+mod CountExamples
