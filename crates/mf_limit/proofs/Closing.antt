@@ -7,7 +7,7 @@ use Rattle.mf_task.specs.LimitClosure.{IsWithin, action_gains, family_after, lim
 use Rattle.mf_task.specs.Rows.{Sight}
 use Rattle.mf_limit.specs.declared.sets.LimitSets.{LimitSets}
 use Rattle.mf_limit.specs.Growth.{Grows}
-use Rattle.mf_limit.specs.NumberedTasks.{is_numbered}
+use Rattle.mf_task.specs.NumberedTasks.{is_numbered}
 use Rattle.mf_limit.specs.Sets.{HasSizesOf, IsFirst, IsLimit, family_of}
 use Rattle.mf_limit.proofs.Families.{all-more, gains-within, has-gains, hold-more, round-more, within-within}
 use Rattle.mf_limit.proofs.Growing.{sizes-kept}

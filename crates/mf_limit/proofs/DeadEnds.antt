@@ -8,7 +8,7 @@ use Rattle.mf_task.specs.GroundMeaning.{action_firing, ground_holds, is_ground_a
 use Rattle.mf_task.specs.LimitClosure.{Family, IsWithin, is_dead, limit_closure, next_family}
 use Rattle.mf_task.specs.Rows.{Sight}
 use Rattle.mf_limit.specs.GroundRuns.{IsGroundRun, end_of_run, sight_after}
-use Rattle.mf_limit.specs.NumberedTasks.{HasProperForms, IsProperSight, is_numbered}
+use Rattle.mf_task.specs.NumberedTasks.{HasProperForms, IsProperSight, is_numbered}
 use Rattle.mf_limit.proofs.Reached.{Reaches, reaches-start}
 use Rattle.mf_limit.proofs.Rounds.{limit-closed}
 use Rattle.mf_limit.proofs.Steps.{reaches-after}

@@ -12,7 +12,7 @@ use Rattle.mf_task.specs.GroundMeaning.{relates, sign}
 use Rattle.mf_task.specs.LimitClosure.{Family, form_may_be_defined, if_fits, is_zero, known_value, lifts, lowers, may_get, may_go_down, may_go_up, may_have_sign, sign_of_known, then_some}
 use Rattle.mf_task.specs.LinearForms.{form_value, weight}
 use Rattle.mf_task.specs.Rows.{Sight}
-use Rattle.mf_limit.specs.NumberedTasks.{IsProperForm, IsProperSight}
+use Rattle.mf_task.specs.NumberedTasks.{IsProperForm, IsProperSight}
 use Rattle.mf_limit.proofs.Fractions.{before, before-self, before-sum, before-times-above, before-times-under, equal-greater, less-equal, less-greater, nothing, nothing-proper, sign-zero}
 use Rattle.mf_limit.proofs.Reached.{IsReached, Reaches, moves}
 

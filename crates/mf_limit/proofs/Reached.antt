@@ -3,7 +3,7 @@ use Rattle.std.proofs.Common.{◌≡◌, ℕ, Bool, true, false, not, is_some, O
 use Rattle.mf_fraction.specs.Exact.{Number, Proper}
 use Rattle.mf_task.specs.LimitClosure.{Family, IsWithin, first_family}
 use Rattle.mf_task.specs.Rows.{Sight}
-use Rattle.mf_limit.specs.NumberedTasks.{IsProperSight}
+use Rattle.mf_task.specs.NumberedTasks.{IsProperSight}
 use Rattle.mf_limit.proofs.Fractions.{before, before-self}
 
 -- the terms that may move in a direction

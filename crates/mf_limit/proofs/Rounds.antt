@@ -15,7 +15,7 @@ use Rattle.mf_task.specs.declared.task.Task.{Task}
 use Rattle.mf_task.specs.GroundMeaning.{optional_form_at}
 use Rattle.mf_task.specs.LimitClosure.{Family, Gain, MayRise, MayFall, MayBeDefined, IsClosed, IsWithin, action_gains, change_gains, effect_gains, family_after, first_family, gain_if, limit_closure, may_hold, next_family, number_gains, optional_may_be_defined, optional_may_have_sign, round_count}
 use Rattle.mf_task.specs.Rows.{Sight}
-use Rattle.mf_limit.specs.NumberedTasks.{is_numbered, is_numbered_action, is_numbered_change}
+use Rattle.mf_task.specs.NumberedTasks.{is_numbered, is_numbered_action, is_numbered_change}
 use Rattle.mf_limit.specs.Growth.{has}
 use Rattle.mf_limit.proofs.Families.{either, gains-within, round-more, within-gains, within-itself, within-within}
 

@@ -20,7 +20,7 @@ use Rattle.mf_task.specs.LimitClosure.{Family, Gain, MayRise, MayFall, MayBeDefi
 use Rattle.mf_task.specs.LinearForms.{form_value, optional_form_value, weight}
 use Rattle.mf_task.specs.Rows.{Sight}
 use Rattle.mf_limit.specs.GroundRuns.{sight_after}
-use Rattle.mf_limit.specs.NumberedTasks.{HasProperForms, IsProperForm, IsProperSight}
+use Rattle.mf_task.specs.NumberedTasks.{HasProperForms, IsProperForm, IsProperSight}
 use Rattle.mf_limit.specs.Growth.{has}
 use Rattle.mf_limit.proofs.Families.{either, has-gains}
 use Rattle.mf_limit.proofs.FormSigns.{all-defined, both-summands, form-may, form-proper}

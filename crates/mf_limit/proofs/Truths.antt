@@ -16,7 +16,7 @@ use Rattle.mf_task.specs.GroundMeaning.{form_at, ground_holds, ground_truth, gro
 use Rattle.mf_task.specs.LimitClosure.{Family, agrees_with, all_may, any_may, atom_may, may_be, may_compare, may_have_sign, may_hold, may_step}
 use Rattle.mf_task.specs.LinearForms.{form_value}
 use Rattle.mf_task.specs.Rows.{Sight}
-use Rattle.mf_limit.specs.NumberedTasks.{HasProperForms, IsProperForm, IsProperSight}
+use Rattle.mf_task.specs.NumberedTasks.{HasProperForms, IsProperForm, IsProperSight}
 use Rattle.mf_limit.proofs.FormSigns.{form-may}
 use Rattle.mf_limit.proofs.Reached.{Reaches}
 

@@ -1,5 +1,4 @@
 pub mod Chances
 pub mod Growth
 pub mod GroundRuns
-pub mod NumberedTasks
 pub mod Sets

@@ -1,4 +1,4 @@
-ghost use Rattle.mf_limit.specs.NumberedTasks.{is_numbered};
+ghost use Rattle.mf_task.specs.NumberedTasks.{is_numbered};
 ghost use Rattle.mf_task.specs.LimitClosure.{is_dead};
 ghost use Rattle.mf_task.specs.Rows.{IsRowOf, sight_of};
 ghost use Rattle.std.specs.Prelude.{◌≡◌, IfOk, true};

@@ -1,7 +1,7 @@
 //! What changes add to the sets of the limit closure.
 ghost use Rattle.mf_limit.specs.Chances.{number_chance};
 ghost use Rattle.mf_limit.specs.Growth.{Fits, Grows, gain_of, term_gains};
-ghost use Rattle.mf_limit.specs.NumberedTasks.{is_numbered_change};
+ghost use Rattle.mf_task.specs.NumberedTasks.{is_numbered_change};
 ghost use Rattle.mf_limit.specs.Sets.{HasSizesOf};
 ghost use Rattle.mf_task.specs.GroundMeaning.{optional_form_at};
 ghost use Rattle.mf_task.specs.LimitClosure.{change_gains, gain_if, number_gains};

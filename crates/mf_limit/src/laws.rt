@@ -1,5 +1,5 @@
 ghost use Rattle.mf_limit.specs.GroundRuns.{IsGroundRun, end_of_run};
-ghost use Rattle.mf_limit.specs.NumberedTasks.{HasProperForms, IsProperSight, is_numbered};
+ghost use Rattle.mf_task.specs.NumberedTasks.{HasProperForms, IsProperSight, is_numbered};
 ghost use Rattle.mf_task.specs.declared.ground.GroundAction.{GroundAction};
 ghost use Rattle.mf_task.specs.declared.task.Task.{Task};
 ghost use Rattle.mf_task.specs.GroundMeaning.{is_ground_goal};

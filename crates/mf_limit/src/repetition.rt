@@ -1,6 +1,6 @@
 //! The limit closure, round by round: a slow body, which looks at each action in each round.
 ghost use Rattle.mf_limit.specs.Growth.{Grows};
-ghost use Rattle.mf_limit.specs.NumberedTasks.{is_numbered, is_numbered_action, is_numbered_change};
+ghost use Rattle.mf_task.specs.NumberedTasks.{is_numbered, is_numbered_action, is_numbered_change};
 ghost use Rattle.mf_limit.specs.Sets.{HasSizesOf, IsFirst, IsLimit};
 ghost use Rattle.mf_task.specs.LimitClosure.{action_gains, effect_gains};
 ghost use Rattle.mf_task.specs.Rows.{IsRowOf, sight_of};

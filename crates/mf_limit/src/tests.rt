@@ -1,4 +1,4 @@
-ghost use Rattle.mf_limit.specs.NumberedTasks.{is_numbered, is_numbered_action};
+ghost use Rattle.mf_task.specs.NumberedTasks.{is_numbered, is_numbered_action};
 ghost use Rattle.mf_task.specs.declared.task.Task.{Task};
 ghost use Rattle.std.specs.Prelude.{◌≡◌, ◌∷◌, [], length, true};
 

@@ -27,7 +27,7 @@ use Rattle.mf_bridge.proofs.ActionsMade.{is_made}
 use Rattle.mf_bridge.proofs.CoveredTerms.{instance_terms_covered}
 use Rattle.mf_bridge.proofs.FluentAtoms.{changed_atoms_covered}
 use Rattle.mf_bridge.proofs.ListTests.{any_back, any_front, place_is, place_within}
-use Rattle.mf_limit.specs.NumberedTasks.{is_numbered, is_numbered_action, is_numbered_change}
+use Rattle.mf_task.specs.NumberedTasks.{is_numbered, is_numbered_action, is_numbered_change}
 
 place_below : {X : Type 0} (test : X → Bool) (xs : List X) → list_any test xs ≡ true → nat_lt (place_or_end (position test xs) (length xs)) (length xs) ≡ true
 place_below test xs e = lt-ltb (place_or_end (position test xs) (length xs)) (length xs) (subst (λ n. n < length xs) (sym (place_is test xs)) (place_within test xs e))

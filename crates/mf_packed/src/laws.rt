@@ -1,5 +1,5 @@
 ghost use Rattle.std.specs.Prelude.{◌≡◌, true, List};
-ghost use Rattle.mf_limit.specs.NumberedTasks.{is_numbered};
+ghost use Rattle.mf_task.specs.NumberedTasks.{is_numbered};
 ghost use Rattle.mf_model.specs.declared.state.Instance.{Instance};
 ghost use Rattle.mf_model.specs.declared.task.TypedTask.{TypedTask};
 ghost use Rattle.mf_task.specs.Grounding.{ground_of};

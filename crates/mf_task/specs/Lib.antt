@@ -14,3 +14,4 @@ pub mod Successors
 pub mod WideForms
 pub mod Width
 pub mod Histories
+pub mod NumberedTasks

@@ -9,7 +9,7 @@ use Rattle.mf_task.specs.GroundMeaning.{adds_atom, deletes_atom, form_at}
 use Rattle.mf_task.specs.Layers.{Bound, Finite, Counting, FiringEffect, Layer, Range, Want, atom_is_met, counting, firing_at, first_layer, form_is_met, layer_at, layers_to, next_layer_by, next_range, point}
 use Rattle.mf_task.specs.RelaxedPlan.{CountedEffect, Relaxation, at_layer, counted_effects, fired_at, form_need, serves_atom}
 use Rattle.mf_task.specs.Rows.{Sight}
-use Rattle.mf_limit.specs.NumberedTasks.{HasProperForms}
+use Rattle.mf_task.specs.NumberedTasks.{HasProperForms}
 use Rattle.mf_values.specs.Fitting.{HasFittingConstants, IsStoredSight}
 use Rattle.mf_values.proofs.Kept.{IsKeptLayer, IsKeptRange}
 use Rattle.mf_values.proofs.Layering.{IsKeptOption, last-layer, length-layers, more, more-is, next-range-kept, same-front, same-layer}

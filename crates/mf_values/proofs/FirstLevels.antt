@@ -17,7 +17,7 @@ use Rattle.mf_task.specs.LinearForms.{form_value, weight}
 use Rattle.mf_task.specs.Layers.{Bound, Finite, Endless, Layer, Range, Want, first_layer, form_is_met, form_range, has_range, high_by, if_it_fits, low_by, plus_bound, point, range_meets, optional_range_meets, times_bound, want_of, with_high, with_low, zero_number}
 use Rattle.mf_task.specs.Rows.{Sight}
 use Rattle.mf_task.specs.Width.{FormValue, Undefined, Wide, Exact, added_up, all_defined, bounded_value, is_wide_at, is_wide_value, onward, unless_wide}
-use Rattle.mf_limit.specs.NumberedTasks.{IsProperForm, IsProperSight}
+use Rattle.mf_task.specs.NumberedTasks.{IsProperForm, IsProperSight}
 use Rattle.mf_limit.proofs.Fractions.{nothing, nothing-proper, below-less, below-greater, order-less, order-greater, sign-zero}
 
 -- A form that is not wide

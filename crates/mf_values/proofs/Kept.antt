@@ -7,7 +7,7 @@ use Rattle.mf_task.specs.declared.form.Form.{Form}
 use Rattle.mf_task.specs.declared.form.Part.{Part}
 use Rattle.mf_task.specs.GroundMeaning.{sign}
 use Rattle.mf_task.specs.Layers.{Bound, Finite, Endless, Layer, Range, form_range, has_range, high_by, high_of, if_it_fits, low_by, low_of, minus_bound, plus_bound, times_bound, with_high, with_low}
-use Rattle.mf_limit.specs.NumberedTasks.{IsProperForm}
+use Rattle.mf_task.specs.NumberedTasks.{IsProperForm}
 use Rattle.mf_values.specs.Fitting.{IsStored}
 use Rattle.mf_values.proofs.Ends.{IsKept}
 

@@ -10,7 +10,7 @@ use Rattle.mf_model.specs.declared.task.Op.TheVariants.{Assign, Increase, Decrea
 use Rattle.mf_task.specs.declared.task.Task.{Task}
 use Rattle.mf_task.specs.Layers.{Bound, Finite, Endless, Counting, FiringEffect, Layer, Range, counting, counting_of, extreme, fall_by, falls, firing_at, first_layer, high_ends, high_ends_by, higher, is_step, layer_at, layers_to, low_ends, low_ends_by, lower, minus_bound, moved_high, moved_low, negative_bound, next_layer_by, next_range, plus_bound, point, positive_part, range_from, rise_by, rises, scaled_end, scaled_high, scaled_low, zero_number}
 use Rattle.mf_task.specs.Rows.{Sight}
-use Rattle.mf_limit.specs.NumberedTasks.{HasProperForms}
+use Rattle.mf_task.specs.NumberedTasks.{HasProperForms}
 use Rattle.mf_values.specs.Fitting.{HasFittingConstants, IsStored, IsStoredSight}
 use Rattle.mf_values.proofs.Ends.{IsKept, zero-kept}
 use Rattle.mf_values.proofs.Folds.{all_append}

@@ -7,7 +7,7 @@ use Rattle.mf_task.specs.declared.form.Form.{Form}
 use Rattle.mf_task.specs.LinearForms.{negative_form}
 use Rattle.mf_task.specs.Layers.{Bound, Finite, Endless, FiringEffect, Layer, Range, Want, Below, AtMost, Zero, NotZero, AtLeast, Above, form_is_met, form_range, is_above_zero, is_below_zero, is_not_above_zero, is_not_below_zero, optional_range_meets, zero_number}
 use Rattle.mf_task.specs.RelaxedPlan.{Need, AtomNeed, FormNeed, Relaxation, at_layer, fired_at, form_need, is_finite_below, is_high_above, is_high_below, serves_atom, want_for}
-use Rattle.mf_limit.specs.NumberedTasks.{HasProperForms, IsProperForm}
+use Rattle.mf_task.specs.NumberedTasks.{HasProperForms, IsProperForm}
 use Rattle.mf_values.specs.Fitting.{HasFittingConstants}
 use Rattle.mf_values.proofs.Kept.{IsKeptLayer}
 use Rattle.mf_values.proofs.Negatives.{met-negative-above, met-negative-least, negative-proper-form}

@@ -10,7 +10,7 @@ use Rattle.mf_task.specs.declared.form.Part.{Part}
 use Rattle.mf_task.specs.GroundMeaning.{sign}
 use Rattle.mf_task.specs.LinearForms.{minus_one, negative_form, scaled_part}
 use Rattle.mf_task.specs.Layers.{Bound, Finite, Endless, Layer, Range, Above, AtLeast, AtMost, Below, form_is_met, form_range, has_range, high_by, high_of, if_it_fits, is_above_zero, is_below_zero, is_not_above_zero, is_not_below_zero, low_by, low_of, negative_bound, plus_bound, times_bound, with_high, with_low, zero_number}
-use Rattle.mf_limit.specs.NumberedTasks.{IsProperForm}
+use Rattle.mf_task.specs.NumberedTasks.{IsProperForm}
 use Rattle.mf_limit.proofs.Fractions.{below-greater, below-less, nothing-proper, order-greater, order-less}
 use Rattle.mf_values.proofs.Ends.{IsKept, below-negative, below-turned, negative-zero}
 use Rattle.mf_values.proofs.Kept.{IsKeptLayer, high-kept, low-kept, times-kept, with-low-kept}

@@ -12,7 +12,7 @@ use Rattle.mf_task.specs.declared.task.Task.{Task}
 use Rattle.mf_task.specs.Layers.{FiringEffect, Layer, all_levels, and_level, level_as, level_of, level_step, listed, or_level}
 use Rattle.mf_task.specs.RelaxedPlan.{LayerNeed, Need, AtomNeed, FormNeed, Relaxation, Relaxed, Requirement, Service, Step, all_needs, at_layer, at_this_layer, fired_at, is_counted_part, level_part, needs_after, needs_of, plan_length, relaxed_at, relaxed_from, require_step, required, same_step, selected_in, served, served_form, services, want_for}
 use Rattle.mf_task.specs.Rows.{Sight}
-use Rattle.mf_limit.specs.NumberedTasks.{HasProperForms}
+use Rattle.mf_task.specs.NumberedTasks.{HasProperForms}
 use Rattle.mf_values.specs.Fitting.{HasFittingConstants, IsStoredSight}
 use Rattle.mf_values.proofs.Chosen.{relaxation_to, served-leaves}
 use Rattle.mf_values.proofs.Needs.{Serves}

@@ -17,7 +17,7 @@ use Rattle.mf_task.specs.GroundMeaning.{form_at, optional_form_at, sign}
 use Rattle.mf_task.specs.Layers.{Bound, Finite, Endless, Counting, FiringEffect, Layer, Range, Want, Above, AtLeast, constant_alone, constant_of, counting, counting_of, counting_with, extreme, factor_of, form_is_met, form_range, has_range, high_by, higher, inverse, listed, low_ends, lower, may_count, next_range, optional_form_range, range_from, range_meets, with_high, with_low}
 use Rattle.mf_task.specs.LimitClosure.{is_zero}
 use Rattle.mf_task.specs.RelaxedPlan.{CountedEffect, Relaxation, Serving, assigned, best_end, by_effect, counted_effect, counted_effects, has_term, is_assign, is_counted_part, is_settled, replaced_by, take_effect, take_term, want_for, with_assign, with_effect, without_term}
-use Rattle.mf_limit.specs.NumberedTasks.{HasProperForms, IsProperForm}
+use Rattle.mf_task.specs.NumberedTasks.{HasProperForms, IsProperForm}
 use Rattle.mf_limit.proofs.Fractions.{toward}
 use Rattle.mf_meaning.proofs.LiveInstances.{contains_filter}
 use Rattle.mf_values.specs.Fitting.{HasFittingConstants}

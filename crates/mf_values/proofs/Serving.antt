@@ -15,7 +15,7 @@ use Rattle.mf_model.specs.declared.task.Op.TheVariants.{Assign, Increase, Decrea
 use Rattle.mf_task.specs.LimitClosure.{is_zero}
 use Rattle.mf_task.specs.RelaxedPlan.{CountedEffect, Relaxation, Serving, assigned, by_effect, counted_effect, counted_effects, has_term, is_assign, is_counted_part, is_settled, take_effect, take_term, want_for, with_assign}
 use Rattle.mf_fraction.specs.Exact.{Number, Proper, fits}
-use Rattle.mf_limit.specs.NumberedTasks.{HasProperForms, IsProperForm}
+use Rattle.mf_task.specs.NumberedTasks.{HasProperForms, IsProperForm}
 use Rattle.mf_limit.proofs.Fractions.{toward}
 use Rattle.mf_meaning.proofs.LiveInstances.{contains_filter}
 use Rattle.mf_values.specs.Fitting.{HasFittingConstants}

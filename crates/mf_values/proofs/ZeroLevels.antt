@@ -13,7 +13,7 @@ use Rattle.mf_task.specs.GroundMeaning.{form_at, ground_holds, ground_truth, gro
 use Rattle.mf_task.specs.Layers.{Layer, all_levels, and_level, any_level, atom_is_met, earlier, first_layer, form_is_met, later, level_as, level_of, level_step, or_level, want_of}
 use Rattle.mf_task.specs.Rows.{Sight}
 use Rattle.mf_task.specs.Width.{is_wide_at, is_wide_cond, wide_step}
-use Rattle.mf_limit.specs.NumberedTasks.{HasProperForms, IsProperSight}
+use Rattle.mf_task.specs.NumberedTasks.{HasProperForms, IsProperSight}
 use Rattle.mf_values.proofs.Chosen.{first-place}
 use Rattle.mf_values.proofs.FirstLevels.{met-first}
 use Rattle.mf_values.proofs.Required.{earlier-part}

@@ -12,7 +12,7 @@ use Rattle.mf_task.specs.LimitClosure.{is_dead}
 use Rattle.mf_task.specs.RelaxedPlan.{Relaxed, plan_length, relaxed_at, relaxed_from, relaxed_plan, required}
 use Rattle.mf_task.specs.Rows.{Sight}
 use Rattle.mf_task.specs.Width.{is_narrow, is_wide_action, is_wide_cond, is_wide_goal}
-use Rattle.mf_limit.specs.NumberedTasks.{HasProperForms, IsProperSight, is_numbered}
+use Rattle.mf_task.specs.NumberedTasks.{HasProperForms, IsProperSight, is_numbered}
 use Rattle.mf_limit.proofs.DeadEnds.{no-goal}
 use Rattle.mf_values.specs.Fitting.{HasFittingConstants, IsStoredSight}
 use Rattle.mf_values.proofs.Chosen.{relaxation_to, served-leaves}

@@ -1,5 +1,5 @@
 ghost use Rattle.std.specs.Prelude.{◌≡◌, ◌↔◌, true, Some};
-ghost use Rattle.mf_limit.specs.NumberedTasks.{HasProperForms, is_numbered};
+ghost use Rattle.mf_task.specs.NumberedTasks.{HasProperForms, is_numbered};
 ghost use Rattle.mf_task.specs.declared.task.Task.{Task};
 ghost use Rattle.mf_task.specs.declared.value.HeuristicKind.{HeuristicKind};
 ghost use Rattle.mf_task.specs.GroundMeaning.{is_ground_goal};
