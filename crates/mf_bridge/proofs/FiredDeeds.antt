@@ -65,7 +65,7 @@ linear_from_change constant Decrease changed value e = e
 linear_from_change constant ScaleUp changed value e = constant_within (degree_of constant value) e
 linear_from_change constant ScaleDown changed value e = constant_within (degree_of constant value) e
 
-value_passes : (task : TypedTask) (op : Op) (changed : ℕ) (value : Expr) → ((test : Test task) → change_passes task test op changed value ≡ true) → (test : Test task) → passes task test value ≡ true
+pub value_passes : (task : TypedTask) (op : Op) (changed : ℕ) (value : Expr) → ((test : Test task) → change_passes task test op changed value ≡ true) → (test : Test task) → passes task test value ≡ true
 unfolding passes change_passes
 value_passes task op changed value pass Linear = linear_from_change (is_constant task) op changed value (pass Linear)
 value_passes task op changed value pass Numbers = pass Numbers

@@ -33,3 +33,4 @@ pub mod CostTerms
 pub mod ApplicableActions
 pub mod SameDeeds
 pub mod FiredNames
+pub mod LowestForms

@@ -59,7 +59,7 @@ lowest_found (v ∷ vs) f os all = by (lowest_found vs f os all.1) (is_cell f os
     by rest true = all.0
     by rest false = rest
 
-start_is_lowest : (task : TypedTask) → IsResolvedTask task → (f : ℕ) (os : List ℕ) → IfSome (value_at (start_of task).values f os) Proper
+pub start_is_lowest : (task : TypedTask) → IsResolvedTask task → (f : ℕ) (os : List ℕ) → IfSome (value_at (start_of task).values f os) Proper
 start_is_lowest task resolved f os =
     lowest_found (start_of task).values f os (lowest_fold [] task.values tt (each task.values (recursion_from_All (λ v. IsTrue (is_stored v.value)) task.values resolved.numbers.values)))
   where

@@ -8,6 +8,7 @@ mod conditions;
 mod coverage;
 mod effects;
 mod forms;
+mod lowest_forms;
 mod next_rows;
 mod rows;
 mod unlisted_atoms;
@@ -21,6 +22,7 @@ pub use conditions::{
 pub use coverage::{atoms_and_terms_are_sorted, atoms_cover, terms_cover};
 pub use effects::{actions_fire_alike, effects_fire_alike};
 pub use forms::{comparisons_are_signs_of_differences, forms_have_the_values_of_expressions};
+pub use lowest_forms::forms_are_in_lowest_terms;
 pub use next_rows::next_rows_stand_for_next_states;
 pub use rows::{
     rows_are_told_apart_by_states, rows_show_their_states, rows_stand_for_search_states,
