@@ -70,7 +70,7 @@ ground_told d p domain problem before after decision (inr (fit, decides)) = grou
 listed_fine : (decision : Decision) (text : List ℕ) → decision ≡ answers 0 text no_history → IsDecided decision × (decision.status ≢ 2)
 listed_fine decision text is = (
   decided_as (answers 0 text no_history) decision
-  (record { fine = record { most = omega arith; no_fault = λ e. omega arith; quiet = λ low high. absurd (omega arith) }; no_load = λ e. omega arith }) is,
+      (record { fine = record { most = omega arith; no_fault = λ e. omega arith; quiet = λ low high. absurd (omega arith) }; no_load = λ e. omega arith }) is,
   λ two. let e = status_as decision (answers 0 text no_history) 2 is two in omega arith,
 )
 

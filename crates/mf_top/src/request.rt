@@ -16,5 +16,8 @@ pub enum Request {
         plan: Text,
     },
     /// List the live instances of the task of a domain file and a problem file.
-    Ground { domain: Text, problem: Text },
+    Ground {
+        domain: Text,
+        problem: Text,
+    },
 }
