@@ -1,5 +1,5 @@
 -- What the calls of `ground` keep, field by field.
-use Rattle.std.proofs.Common.{◌≡◌, ◌≢◌, ℕ, ◌⊎◌, inl, inr, Some, List, [], ◌∷◌, refl, ◌∙◌, arith}
+use Rattle.std.proofs.Common.{◌≡◌, ◌≢◌, ℕ, ◌⊎◌, inl, inr, Some, List, [], ◌∷◌, ◌∙◌, arith}
 use Rattle.mf_top.specs.declared.decision.Decision.{Decision}
 use Rattle.mf_top.specs.declared.request.Request.TheVariants.{Ground}
 use Rattle.mf_top.specs.Call.{Call, IsUnlessFault, Says}

@@ -1,5 +1,5 @@
 -- How the calls of `ground` end.
-use Rattle.std.proofs.Common.{◌≡◌, ◌≢◌, ℕ, ◌<◌, ◌≤◌, ◌⊎◌, inl, inr, List, [], ◌∷◌, length, codes, refl, sym, ◌∙◌, ap, subst, arith}
+use Rattle.std.proofs.Common.{◌≡◌, ◌≢◌, ℕ, ◌≤◌, ◌⊎◌, inl, inr, List, [], ◌∷◌, length, ap, subst, arith}
 use Rattle.mf_io.specs.declared.folder.Loading.{Loading}
 use Rattle.mf_model.specs.declared.task.TypedTask.{TypedTask}
 use Rattle.mf_model.specs.LiveInstances.{live_instances, live_prefix_count}
@@ -8,23 +8,14 @@ use Rattle.mf_input.specs.Files.{IsTaskOfFiles}
 use Rattle.mf_input.proofs.OneTask.{only_task}
 use Rattle.mf_top.specs.declared.decision.Decision.{Decision}
 use Rattle.mf_top.specs.Call.{Call, Says, IsUnlessFault, FailsAt, LastLoadFails}
-use Rattle.mf_top.specs.Decision.{no_history, answers, stops, refuses, out_of_memory, IsUnlessMemory}
-use Rattle.mf_top.specs.Ground.{KeepsLimits, IsLimitRefusal, ground_text, ListsInstances, DecidesGround, PassesLimit, IsGroundRefusal, IsRefusedGround, HaveInstances, PrintsInstances}
+use Rattle.mf_top.specs.Decision.{no_history, answers, stops, refuses, out_of_memory}
+use Rattle.mf_top.specs.Ground.{KeepsLimits, IsLimitRefusal, ground_text, DecidesGround, PassesLimit, IsGroundRefusal, IsRefusedGround, HaveInstances, PrintsInstances}
 use Rattle.mf_top.specs.Loads.{AllFit}
 use Rattle.mf_top.specs.Texts.{unread_text}
 use Rattle.mf_top.proofs.CallLemmas.{Delivered, Concluded, stands, stands_as, memory_stands, says_as, status_as}
 use Rattle.mf_top.proofs.LoadLemmas.{IsDecided, IsStopped, decided_as, memory_fine, refuses_fine, ToldStops, length_refused, long_does_not_fit}
 
--- The step
-
--- a limit that the task passes refuses it
-pub limit_refuses : (task : TypedTask) (text : List ℕ) (decision : Decision) → IsLimitRefusal task text → IsUnlessMemory (refuses text) decision → ListsInstances task decision
-limit_refuses task text decision passes (inl is) = inr (inr (text, passes, is))
-limit_refuses task text decision passes (inr memory) = inl memory
-
-pub limits_list : (task : TypedTask) (decision : Decision) → KeepsLimits task → IsUnlessMemory (answers 0 (ground_text task) no_history) decision → ListsInstances task decision
-limits_list task decision limits (inl is) = inr (inl (limits, is))
-limits_list task decision limits (inr memory) = inl memory
+-- The limits
 
 -- a task that passes a limit doesn't keep the limits
 limit_not_kept : (task : TypedTask) (text : List ℕ) → IsLimitRefusal task text → KeepsLimits task → ⊥

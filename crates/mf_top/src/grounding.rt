@@ -1,9 +1,9 @@
-ghost use Rattle.std.specs.Prelude.{◌≡◌, ◌≤◌, length};
+ghost use Rattle.std.specs.Prelude.{◌≤◌, length};
 ghost use Rattle.mf_ground.specs.Outcome.{AreInstances};
 ghost use Rattle.mf_model.specs.ResolvedTask.{IsResolvedTask};
 ghost use Rattle.mf_top.specs.Call.{call_of, written_of};
 ghost use Rattle.mf_top.specs.Commands.{Comes, Serves};
-ghost use Rattle.mf_top.specs.Decision.{no_history, answers, refuses, IsUnlessMemory};
+ghost use Rattle.mf_top.specs.Decision.{no_history, answers, IsUnlessMemory};
 ghost use Rattle.mf_top.specs.Ground.{ground_text, ListsInstances, DecidesGround};
 ghost use Rattle.mf_top.specs.Loads.{greatest_length};
 ghost use Rattle.mf_top.specs.Words.{IsRequest, AsksInstances};
