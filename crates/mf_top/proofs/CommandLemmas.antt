@@ -3,13 +3,15 @@ use Rattle.std.proofs.Common.{◌≡◌, ◌≢◌, ℕ, ◌⊎◌, inl, inr, Op
 use Rattle.mf_io.specs.declared.folder.Loading.{Loading}
 use Rattle.mf_top.specs.declared.decision.Decision.{Decision}
 use Rattle.mf_top.specs.declared.request.Request.{Request}
-use Rattle.mf_top.specs.declared.request.Request.TheVariants.{Plan, Validate}
+use Rattle.mf_top.specs.declared.request.Request.TheVariants.{Plan, Validate, Ground}
 use Rattle.mf_top.specs.Call.{Call, Says, IsUnlessFault}
 use Rattle.mf_top.specs.Commands.{files_of, Decides, Comes, CommandKeeps, Serves, Refuses, Runs}
 use Rattle.mf_top.specs.Decision.{out_of_memory, IsUnlessMemory}
 use Rattle.mf_top.specs.Words.{words_refused}
 use Rattle.mf_top.proofs.CallLemmas.{Delivered, Concluded, concluded, stands, stands_as, memory_stands, says_as, status_as}
 use Rattle.mf_top.proofs.LoadLemmas.{IsDecided, IsStopped, Logged, then_logged, keeps, ends_stopped, decided_unless}
+use Rattle.mf_top.proofs.GroundCalls.{grounds}
+use Rattle.mf_top.proofs.GroundLemmas.{ground_decided}
 use Rattle.mf_top.proofs.PlanLemmas.{plan_decided}
 use Rattle.mf_top.proofs.ValidateLemmas.{judgement_decided}
 use Rattle.mf_top.proofs.PlanCalls.{plans}
@@ -27,6 +29,10 @@ decides (Validate d p pl) (s ∷ []) decision of = absurd of
 decides (Validate d p pl) (s ∷ t ∷ []) decision of = absurd of
 decides (Validate d p pl) (domain ∷ problem ∷ source ∷ []) decision of = judgement_decided d p pl domain problem source decision of
 decides (Validate d p pl) (s ∷ t ∷ u ∷ v ∷ sources) decision of = absurd of
+decides (Ground d p) [] decision of = absurd of
+decides (Ground d p) (s ∷ []) decision of = absurd of
+decides (Ground d p) (domain ∷ problem ∷ []) decision of = ground_decided d p domain problem decision of
+decides (Ground d p) (s ∷ t ∷ u ∷ sources) decision of = absurd of
 
 stopped_not_two : (decision : Decision) → IsStopped decision → decision.status ≢ 2
 stopped_not_two decision (inl three) two = omega arith
@@ -57,6 +63,8 @@ command_keeps (Plan d p b) call decision comes delivers =
     plans d p b call decision comes delivers (no_fault_of call.held (Plan d p b) call.log_before call.log_after decision comes)
 command_keeps (Validate d p pl) call decision comes delivers =
     validates d p pl call decision comes delivers (no_fault_of call.held (Validate d p pl) call.log_before call.log_after decision comes)
+command_keeps (Ground d p) call decision comes delivers =
+    grounds d p call decision comes delivers (no_fault_of call.held (Ground d p) call.log_before call.log_after decision comes)
 
 pub serves : (request : Request) (call : Call) (decision : Decision) → Comes call.held request call.log_before call.log_after decision → Delivered decision call → Serves request call
 serves request call decision comes delivers = record {
@@ -105,6 +113,7 @@ memory_comes : (held : List ℕ → Option (List ℕ)) (request : Request) (befo
     Comes held request before after decision
 memory_comes held (Plan d p b) before after decision same memory = inl (inl (inl (same, memory)))
 memory_comes held (Validate d p pl) before after decision same memory = inl (inl (inl (same, memory)))
+memory_comes held (Ground d p) before after decision same memory = inl (inl (inl (same, memory)))
 
 -- the words have no request, or memory ran out while they were read
 pub runs_unread : (request : Option Request) (call : Call) (decision : Decision) → (decision ≡ out_of_memory) ⊎ ((request ≡ None) × IsUnlessMemory words_refused decision) →

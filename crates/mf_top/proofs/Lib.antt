@@ -1,6 +1,8 @@
 pub mod BegunLemmas
 pub mod CallLemmas
 pub mod CommandLemmas
+pub mod GroundCalls
+pub mod GroundLemmas
 pub mod LoadLemmas
 pub mod PlainLemmas
 pub mod PlanCalls

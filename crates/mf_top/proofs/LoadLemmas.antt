@@ -86,6 +86,13 @@ pub decided_unless : (wanted decision : Decision) → IsDecided wanted → IsUnl
 decided_unless wanted decision decided (inl same) = decided_as wanted decision decided same
 decided_unless wanted decision decided (inr memory) = decided_as out_of_memory decision memory_decided memory
 
+-- a decision where memory ran out, and one that refuses the input
+pub memory_fine : (decision : Decision) → decision ≡ out_of_memory → IsDecided decision × (decision.status ≢ 2)
+memory_fine decision memory = (decided_as out_of_memory decision memory_decided memory, λ two. let e = status_as decision out_of_memory 2 memory two in omega arith)
+
+pub refuses_fine : (decision : Decision) (text : List ℕ) → decision ≡ refuses text → IsDecided decision × (decision.status ≢ 2)
+refuses_fine decision text is = (decided_as (refuses text) decision (refuses_decided text) is, λ two. let e = status_as decision (refuses text) 2 is two in omega arith)
+
 fails_fine : (text : List ℕ) (decision : Decision) → IsUnlessMemory (stops 4 text) decision → IsFine decision
 fails_fine text decision (inl same) = subst IsFine (sym same) (record { most = omega arith; no_fault = λ e. omega arith; quiet = λ low high. refl })
 fails_fine text decision (inr memory) = (decided_as out_of_memory decision memory_decided memory).fine

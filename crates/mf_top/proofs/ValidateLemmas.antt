@@ -21,7 +21,7 @@ use Rattle.mf_top.specs.Loads.{AllFit}
 use Rattle.mf_top.specs.Texts.{unread_text, plan_fault_text, judgement_text}
 use Rattle.mf_top.specs.Validate.{IsPlanIn, judgement_status, judgement_of, JudgesSource, DecidesJudgement, HasPlanFault, IsFilesRefusal, AreRefusedFiles, WritesPlan, IsValidFile, IsInvalidFile, IsWideFile, PrintsValid, PrintsFailure, PrintsWidth}
 use Rattle.mf_top.proofs.CallLemmas.{Delivered, Concluded, stands, stands_as, memory_stands, says_as, status_as}
-use Rattle.mf_top.proofs.LoadLemmas.{IsFine, IsDecided, memory_decided, refuses_decided, decided_as, ToldStops, length_refused, long_does_not_fit}
+use Rattle.mf_top.proofs.LoadLemmas.{IsDecided, decided_as, memory_fine, refuses_fine, ToldStops, length_refused, long_does_not_fit}
 
 -- How a call ends, of files with these bytes
 
@@ -74,12 +74,6 @@ judged_decided (Err (judge.Wide step)) =
     (record { fine = record { most = omega arith; no_fault = λ e. omega arith; quiet = λ low high. absurd (omega arith) }; no_load = λ e. omega arith }, λ two. omega arith)
 judged_decided (Err judge.Memory) =
     (record { fine = record { most = omega arith; no_fault = λ e. omega arith; quiet = λ low high. refl }; no_load = λ e. omega arith }, λ two. omega arith)
-
-memory_fine : (decision : Decision) → decision ≡ out_of_memory → IsDecided decision × (decision.status ≢ 2)
-memory_fine decision memory = (decided_as out_of_memory decision memory_decided memory, λ two. let e = status_as decision out_of_memory 2 memory two in omega arith)
-
-refuses_fine : (decision : Decision) (text : List ℕ) → decision ≡ refuses text → IsDecided decision × (decision.status ≢ 2)
-refuses_fine decision text is = (decided_as (refuses text) decision (refuses_decided text) is, λ two. let e = status_as decision (refuses text) 2 is two in omega arith)
 
 pub judgement_decided : (d p pl domain problem source : List ℕ) (decision : Decision) → DecidesJudgement d p pl domain problem source decision → IsDecided decision × (decision.status ≢ 2)
 judgement_decided d p pl domain problem source decision (inl (inl memory)) = memory_fine decision memory

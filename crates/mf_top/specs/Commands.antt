@@ -3,9 +3,10 @@ use Rattle.std.specs.Prelude.{◌≡◌, ◌≢◌, ℕ, ◌⊎◌, Option, Some
 use Rattle.mf_io.specs.declared.folder.Loading.{Loading}
 use Rattle.mf_top.specs.declared.decision.Decision.{Decision}
 use Rattle.mf_top.specs.declared.request.Request.{Request}
-use Rattle.mf_top.specs.declared.request.Request.TheVariants.{Plan, Validate}
+use Rattle.mf_top.specs.declared.request.Request.TheVariants.{Plan, Validate, Ground}
 use Rattle.mf_top.specs.Call.{Call, Delivers, IsUnlessFault, Keeps, Says}
 use Rattle.mf_top.specs.Decision.{IsUnlessMemory}
+use Rattle.mf_top.specs.Ground.{DecidesGround, Grounds}
 use Rattle.mf_top.specs.Loads.{LoadsThen}
 use Rattle.mf_top.specs.Plan.{DecidesPlan, Plans}
 use Rattle.mf_top.specs.Validate.{DecidesJudgement, Validates}
@@ -15,11 +16,13 @@ use Rattle.mf_top.specs.Words.{words_refused}
 abbrev pub files_of : Request → List (List ℕ)
 files_of (Plan domain problem budget) = domain ∷ problem ∷ []
 files_of (Validate domain problem plan) = domain ∷ problem ∷ plan ∷ []
+files_of (Ground domain problem) = domain ∷ problem ∷ []
 
 -- what the bytes of these files decide
 abbrev pub Decides : Request → List (List ℕ) → Decision → Type 0
 Decides (Plan domain_name problem_name budget) (domain ∷ problem ∷ []) decision = DecidesPlan domain_name problem_name budget domain problem decision
 Decides (Validate domain_name problem_name plan_name) (domain ∷ problem ∷ source ∷ []) decision = DecidesJudgement domain_name problem_name plan_name domain problem source decision
+Decides (Ground domain_name problem_name) (domain ∷ problem ∷ []) decision = DecidesGround domain_name problem_name domain problem decision
 Decides request sources decision = ⊥
 
 -- the files of the request are loaded, and then their bytes decide
@@ -30,6 +33,7 @@ Comes held request before after decision = LoadsThen held (files_of request) (De
 abbrev pub CommandKeeps : Request → Call → Type 0
 CommandKeeps (Plan domain problem budget) call = Plans domain problem budget call
 CommandKeeps (Validate domain problem plan) call = Validates domain problem plan call
+CommandKeeps (Ground domain problem) call = Grounds domain problem call
 
 -- the call for a request
 pub record Serves (request : Request) (call : Call) : Type 0 where

@@ -38,6 +38,11 @@ step_text task step = codes "(" ++ action_name task.actions step.action ++ flat_
 abbrev pub plan_text : TypedTask → List Instance → List ℕ
 plan_text task steps = flat_map (step_text task) steps ++ codes "; steps " ++ decimal (length steps) ++ codes "\n"
 
+-- a line per instance, and then `; instances N, nodes M`
+abbrev pub instances_text : TypedTask → List Instance → ℕ → List ℕ
+instances_text task instances nodes =
+    flat_map (step_text task) instances ++ codes "; instances " ++ decimal (length instances) ++ codes ", nodes " ++ decimal nodes ++ codes "\n"
+
 abbrev pub budget_text : ℕ → List ℕ
 budget_text expansions = codes "budget reached after " ++ decimal expansions ++ codes " expansions\n"
 

@@ -1,12 +1,12 @@
--- What the words of a call ask for: `validate DOMAIN PROBLEM PLAN`, or `plan DOMAIN PROBLEM`, with `--budget N` where it is wanted, and `--heuristic goals`,
--- in this order and as separate words.
+-- What the words of a call ask for: `validate DOMAIN PROBLEM PLAN`, or `ground DOMAIN PROBLEM`, or `plan DOMAIN PROBLEM`, with `--budget N` where it is
+-- wanted, and `--heuristic goals`, in this order and as separate words.
 use Rattle.std.specs.Prelude.{◌≡◌, ◌⊎◌, Result, Ok, Err, ℕ, ◌+◌, ◌-◌, ◌*◌, ◌≤◌, Bool, ◌&&◌, if◌then◌else◌, nat_le, List, [], ◌∷◌, length, Option, Some, None, codes, bytes_eq}
 use Rattle.std.specs.Char.{is_ascii_digit}
 use Rattle.std.specs.Option.{option_map}
 use Rattle.std.specs.Str.{IsUtf8}
 use Rattle.mf_top.specs.declared.decision.Decision.{Decision}
 use Rattle.mf_top.specs.declared.request.Request.{Request}
-use Rattle.mf_top.specs.declared.request.Request.TheVariants.{Plan, Validate}
+use Rattle.mf_top.specs.declared.request.Request.TheVariants.{Plan, Validate, Ground}
 use Rattle.mf_top.specs.Decision.{stops, out_of_memory, IsUnlessMemory}
 
 abbrev pub default_budget : ℕ
@@ -34,6 +34,9 @@ is_plan word = bytes_eq word (codes "plan")
 abbrev pub is_validate : List ℕ → Bool
 is_validate word = bytes_eq word (codes "validate")
 
+abbrev pub is_ground : List ℕ → Bool
+is_ground word = bytes_eq word (codes "ground")
+
 abbrev pub is_budget : List ℕ → Bool
 is_budget word = bytes_eq word (codes "--budget")
 
@@ -56,28 +59,42 @@ abbrev pub validate_request : List (List ℕ) → Option Request
 validate_request (command ∷ domain ∷ problem ∷ plan ∷ []) = if is_validate command then Some (Validate domain problem plan) else None
 validate_request _ = None
 
+-- the instances that the words ask for
+abbrev pub ground_request : List (List ℕ) → Option Request
+ground_request (command ∷ domain ∷ problem ∷ []) = if is_ground command then Some (Ground domain problem) else None
+ground_request _ = None
+
 abbrev pub either_request : Option Request → Option Request → Option Request
 either_request (Some request) other = Some request
 either_request None other = other
 
 -- what the words ask for; nothing where they break the rule
 abbrev pub request_of : List (List ℕ) → Option Request
-request_of words = either_request (validate_request words) (plan_request words)
+request_of words = either_request (validate_request words) (either_request (ground_request words) (plan_request words))
 
 -- a request that words can make: its file names are texts, and its budget lies in the range
 abbrev pub IsRequest : Request → Type 0
 IsRequest (Plan domain problem budget) = IsUtf8 domain × IsUtf8 problem × (1 ≤ budget) × (budget ≤ greatest_budget)
 IsRequest (Validate domain problem plan) = IsUtf8 domain × IsUtf8 problem × IsUtf8 plan
+IsRequest (Ground domain problem) = IsUtf8 domain × IsUtf8 problem
 
 -- a plan is asked for
 abbrev pub AsksPlan : Request → Type 0
 AsksPlan (Plan domain problem budget) = Unit {0}
 AsksPlan (Validate domain problem plan) = ⊥
+AsksPlan (Ground domain problem) = ⊥
 
 -- a judgement is asked for
 abbrev pub AsksJudgement : Request → Type 0
 AsksJudgement (Validate domain problem plan) = Unit {0}
 AsksJudgement (Plan domain problem budget) = ⊥
+AsksJudgement (Ground domain problem) = ⊥
+
+-- the live instances are asked for
+abbrev pub AsksInstances : Request → Type 0
+AsksInstances (Ground domain problem) = Unit {0}
+AsksInstances (Plan domain problem budget) = ⊥
+AsksInstances (Validate domain problem plan) = ⊥
 
 abbrev pub words_refused : Decision
 words_refused = stops 2 (codes "words refused\n")

@@ -5,6 +5,7 @@ ghost use Rattle.mf_top.specs.Words.{request_of, IsRequest};
 
 use crate::Request;
 use crate::deliver::{Ended, deliver};
+use crate::grounding::ground;
 use crate::plan::plan_one;
 use crate::validation::validate;
 use crate::words::read_words;
@@ -26,6 +27,7 @@ fn serve<F: Folder, O: Sink, E: Sink>(
     match request {
         Request::Plan { .. } => plan_one(alloc, request, files, out, err),
         Request::Validate { .. } => validate(alloc, request, files, out, err),
+        Request::Ground { .. } => ground(alloc, request, files, out, err),
     }
 }
 

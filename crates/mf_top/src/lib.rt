@@ -4,6 +4,7 @@
 mod command;
 mod decision;
 mod deliver;
+mod grounding;
 mod kinds;
 mod laws;
 mod load;
@@ -20,6 +21,7 @@ mod words;
 
 pub use command::run;
 pub use deliver::Ended;
+pub use grounding::ground;
 pub use laws::plain_tasks_are_searched;
 pub use load::GREATEST_LENGTH;
 pub use plan::plan_one;

@@ -15,4 +15,9 @@ pub enum Request {
         problem: Text,
         plan: Text,
     },
+    /// List the live instances of the task of a domain file and a problem file.
+    Ground {
+        domain: Text,
+        problem: Text,
+    },
 }

@@ -1,13 +1,13 @@
-ghost use Rattle.std.specs.Prelude.{◌≡◌, ℕ, ◌≤◌, IfOk, codes};
+ghost use Rattle.std.specs.Prelude.{◌≡◌, ℕ, ◌≤◌, IfOk};
 ghost use Rattle.mf_model.specs.ResolvedTask.{IsResolvedTask};
 ghost use Rattle.mf_plain.specs.SearchTask.{IsSearchTask};
 ghost use Rattle.mf_plain.specs.Searches.{IsSearched};
 ghost use Rattle.mf_search.specs.declared.status.Status.TheVariants as status;
-ghost use Rattle.mf_top.specs.Decision.{refuses, IsUnlessMemory};
 ghost use Rattle.mf_top.specs.Search.{FindsPlan, IsAnswer, Answers, Searches};
 
 use crate::decision::Decision;
 use crate::laws::plain_tasks_are_searched;
+use crate::task::refuse_task;
 use crate::texts::{budget_text, plan_text};
 use mf_io::Memory;
 use mf_model::{Text, TypedTask};
@@ -78,15 +78,6 @@ fn decide_answer(alloc: Global, task: &TypedTask, budget: u64, searched: Searche
     }
 }
 
-fn refuse_task(alloc: Global) -> Decision
-    ensures { IsUnlessMemory (refuses (codes "task: not built\n")) result }
-{
-    match Text::from_slice(alloc, b"task: not built\n") {
-        Ok(text) => Decision::refuses(alloc, text),
-        Err(_) => Decision::out_of_memory(alloc),
-    }
-}
-
 /// Searches for a plan of the task with one worker, if the task is plain.
 pub(crate) fn decide_search(alloc: Global, task: &TypedTask, budget: u64) -> Decision
     requires resolved { IsResolvedTask task.now }
@@ -95,7 +86,7 @@ pub(crate) fn decide_search(alloc: Global, task: &TypedTask, budget: u64) -> Dec
 {
     plain_tasks_are_searched();
     if !is_searchable(task) {
-        return refuse_task(alloc);
+        return refuse_task(alloc, b"task: not built\n");
     }
     match search(alloc, task, budget) {
         Ok(searched) => decide_answer(alloc, task, budget, searched),

@@ -30,6 +30,16 @@ fn refuse_file(alloc: Global, name: &Text, refusal: &Refusal) -> Decision
     }
 }
 
+/// The task is refused with this text.
+pub(crate) fn refuse_task(alloc: Global, text: &[u8]) -> Decision
+    ensures { IsUnlessMemory (refuses text.now) result }
+{
+    match Text::from_slice(alloc, text) {
+        Ok(text) => Decision::refuses(alloc, text),
+        Err(_) => Decision::out_of_memory(alloc),
+    }
+}
+
 /// Reads the task of the bytes of two files, whose names are given for the texts of refusals.
 pub(crate) fn read_task(
     alloc: Global,

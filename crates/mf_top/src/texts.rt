@@ -1,7 +1,7 @@
 ghost use Rattle.std.specs.Prelude.{◌≡◌, ◌++◌, OnOk, IfOk};
 ghost use Rattle.std.specs.List.{flat_map};
 ghost use Rattle.std.specs.Fmt.{decimal};
-ghost use Rattle.mf_top.specs.Texts.{action_name, object_name, object_text, step_text, plan_text, budget_text, place_text, refusal_text, unread_text, too_long_text};
+ghost use Rattle.mf_top.specs.Texts.{action_name, object_name, object_text, step_text, plan_text, instances_text, budget_text, place_text, refusal_text, unread_text, too_long_text};
 
 use crate::kinds::kind_text;
 use mf_input::Refusal;
@@ -79,6 +79,25 @@ pub(crate) fn plan_text(alloc: Global, task: &TypedTask, steps: &[Instance]) -> 
     write_steps(task, steps, &mut text)?;
     text.extend(b"; steps ")?;
     write_number(alloc, steps.len() as u64, &mut text)?;
+    text.push(b'\n')?;
+    Ok(text)
+}
+
+/// A line per instance, and then their number and that of nodes.
+pub(crate) fn instances_text(
+    alloc: Global,
+    task: &TypedTask,
+    instances: &[Instance],
+    nodes: u64,
+) -> Result<Text, Memory>
+    ensures { IfOk result (λ text. text ≡ instances_text task.now instances.now nodes) }
+{
+    let mut text = Text::new(alloc);
+    write_steps(task, instances, &mut text)?;
+    text.extend(b"; instances ")?;
+    write_number(alloc, instances.len() as u64, &mut text)?;
+    text.extend(b", nodes ")?;
+    write_number(alloc, nodes, &mut text)?;
     text.push(b'\n')?;
     Ok(text)
 }

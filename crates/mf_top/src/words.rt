@@ -1,7 +1,7 @@
 ghost use Rattle.std.specs.Prelude.{◌≡◌, ◌≤◌, map, IfOk, IfSome, string_bytes};
-ghost use Rattle.mf_top.specs.declared.request.Request.TheVariants.{Plan, Validate};
+ghost use Rattle.mf_top.specs.declared.request.Request.TheVariants.{Plan, Validate, Ground};
 ghost use Rattle.mf_top.specs.Decision.{IsUnlessMemory};
-ghost use Rattle.mf_top.specs.Words.{budget_of, plan_request, validate_request, request_of, asks_goals, greatest_budget, words_refused, ReadsWords, IsRequest};
+ghost use Rattle.mf_top.specs.Words.{budget_of, plan_request, validate_request, ground_request, either_request, request_of, asks_goals, greatest_budget, words_refused, ReadsWords, IsRequest};
 
 use crate::Request;
 use crate::decision::Decision;
@@ -74,6 +74,21 @@ fn validate_of(
     }))
 }
 
+// The request for the live instances of the task in two files.
+fn ground_of(
+    alloc: Global,
+    domain: &String,
+    problem: &String,
+) -> Result<Option<Request>, AllocError>
+    ensures value { IfOk result (λ request. request ≡ Some (Ground (string_bytes domain.now) (string_bytes problem.now))) }
+    ensures valid { IfOk result (λ request. IfSome request IsRequest) }
+{
+    Ok(Some(Request::Ground {
+        domain: Text::from_slice(alloc, domain.as_str().as_bytes())?,
+        problem: Text::from_slice(alloc, problem.as_str().as_bytes())?,
+    }))
+}
+
 // The plan that the words ask for, if they ask for one.
 fn read_plan_words(alloc: Global, words: &[String]) -> Result<Option<Request>, AllocError>
     ensures value { IfOk result (λ request. request ≡ plan_request (map string_bytes words.now)) }
@@ -110,6 +125,30 @@ fn read_validate_words(alloc: Global, words: &[String]) -> Result<Option<Request
     }
 }
 
+// The instances that the words ask for, if they ask for them.
+fn read_ground_words(alloc: Global, words: &[String]) -> Result<Option<Request>, AllocError>
+    ensures value { IfOk result (λ request. request ≡ ground_request (map string_bytes words.now)) }
+    ensures valid { IfOk result (λ request. IfSome request IsRequest) }
+{
+    match words {
+        [command, domain, problem] if command.as_str() == "ground" => {
+            ground_of(alloc, domain, problem)
+        }
+        _ => Ok(None),
+    }
+}
+
+// The plan or the instances that the words ask for.
+fn read_task_words(alloc: Global, words: &[String]) -> Result<Option<Request>, AllocError>
+    ensures value { IfOk result (λ request. request ≡ either_request (ground_request (map string_bytes words.now)) (plan_request (map string_bytes words.now))) }
+    ensures valid { IfOk result (λ request. IfSome request IsRequest) }
+{
+    match read_ground_words(alloc, words)? {
+        Some(request) => Ok(Some(request)),
+        None => read_plan_words(alloc, words),
+    }
+}
+
 // What the words ask for, if they keep the rule.
 fn request_in(alloc: Global, words: &[String]) -> Result<Option<Request>, AllocError>
     ensures value { IfOk result (λ request. request ≡ request_of (map string_bytes words.now)) }
@@ -117,7 +156,7 @@ fn request_in(alloc: Global, words: &[String]) -> Result<Option<Request>, AllocE
 {
     match read_validate_words(alloc, words)? {
         Some(request) => Ok(Some(request)),
-        None => read_plan_words(alloc, words),
+        None => read_task_words(alloc, words),
     }
 }
 

@@ -76,3 +76,68 @@ pub(crate) const GROW: &str =
 
 pub(crate) const GROW_1: &str =
     "(define (problem grow-1) (:domain grow) (:init (= (x) 4611686018427387904)) (:goal (< (x) 0)))";
+
+pub(crate) const PACK: &str = "(define (domain pack) (:types item)
+ (:predicates (wanted ?x - item) (packed ?x - item) (done))
+ (:action pack :parameters (?x - item) :precondition () :effect (packed ?x))
+ (:action finish :precondition (forall (?x - item) (imply (wanted ?x) (packed ?x))) :effect (done)))";
+
+pub(crate) const PACK_1: &str = "(define (problem pack-1) (:domain pack)
+ (:objects i1 i2 i3 i4 i5 i6 i7 i8 i9 i10 i11 i12 i13 i14 i15
+  i16 i17 i18 i19 i20 i21 i22 i23 i24 i25 i26 i27 i28 i29 i30 - item)
+ (:init (wanted i1) (wanted i2) (wanted i3) (wanted i4) (wanted i5) (wanted i6) (wanted i7) (wanted i8)
+  (wanted i9) (wanted i10) (wanted i11) (wanted i12) (wanted i13) (wanted i14) (wanted i15) (wanted i16)
+  (wanted i17) (wanted i18) (wanted i19) (wanted i20) (wanted i21) (wanted i22) (wanted i23) (wanted i24)
+  (wanted i25) (wanted i26) (wanted i27) (wanted i28) (wanted i29) (wanted i30)
+  (packed i1) (packed i2) (packed i3) (packed i4) (packed i5) (packed i6) (packed i7) (packed i8)
+  (packed i9) (packed i10) (packed i11) (packed i12) (packed i13) (packed i14) (packed i15) (packed i16)
+  (packed i17) (packed i18) (packed i19) (packed i20) (packed i21) (packed i22) (packed i23) (packed i24)
+  (packed i25) (packed i26) (packed i27) (packed i28) (packed i29))
+ (:goal (done)))";
+
+pub(crate) const PACKED: &str = "(pack i1)
+(pack i2)
+(pack i3)
+(pack i4)
+(pack i5)
+(pack i6)
+(pack i7)
+(pack i8)
+(pack i9)
+(pack i10)
+(pack i11)
+(pack i12)
+(pack i13)
+(pack i14)
+(pack i15)
+(pack i16)
+(pack i17)
+(pack i18)
+(pack i19)
+(pack i20)
+(pack i21)
+(pack i22)
+(pack i23)
+(pack i24)
+(pack i25)
+(pack i26)
+(pack i27)
+(pack i28)
+(pack i29)
+(pack i30)
+(finish)
+; instances 31, nodes 153
+";
+
+pub(crate) const SHUT: &str = "(define (domain shut) (:predicates (at ?r) (door ?a ?b))
+ (:action go :parameters (?a ?b) :precondition (and (at ?a) (door ?a ?b)) :effect (and (at ?b) (not (at ?a)))))";
+
+pub(crate) const SHUT_1: &str =
+    "(define (problem shut-1) (:domain shut) (:objects a b) (:init (at a)) (:goal (at b)))";
+
+pub(crate) const PAIRS: &str = "(define (domain pairs) (:predicates (at ?r) (lit ?r))
+ (:action go :parameters (?a ?b) :precondition (and (at ?a) (not (= ?a ?b))) :effect (and (at ?b) (not (at ?a))))
+ (:action stay :parameters (?a) :precondition (at ?a) :effect (forall (?r) (when (lit ?r) (not (lit ?r))))))";
+
+pub(crate) const PAIRS_1: &str =
+    "(define (problem pairs-1) (:domain pairs) (:objects a b) (:init (at a)) (:goal (and (at b) (lit a))))";
