@@ -15,7 +15,9 @@ use mf_task::{Child, Naming, Value};
 pub(crate) fn words_fit(row: &Row)
     ensures { HasWords row.now }
 {
-    let _words = row.bits();
+    for word in row.bits() {
+        let _fits = *word;
+    }
 }
 
 // Enters the value, the maker and the key of the state of this number, the last row of the store.
