@@ -2,5 +2,11 @@
 //! take and each finish is one more entry of a legal history.
 #![tactic(auto)]
 
+mod answers;
+mod holding;
+mod ledger;
 mod opening;
 mod tables;
+mod taking;
+
+pub use answers::{Finished, Taken, Unkept};
