@@ -1,0 +1,3 @@
+pub mod GoLaws
+pub mod TableLaws
+pub mod TakeLaws

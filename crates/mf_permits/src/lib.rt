@@ -1,0 +1,12 @@
+//! The core of a search by one to 64 workers: what was opened, taken and expanded, and who may take what next. Each
+//! take and each finish is one more entry of a legal history.
+#![tactic(auto)]
+
+mod answers;
+mod holding;
+mod ledger;
+mod opening;
+mod tables;
+mod taking;
+
+pub use answers::{Finished, Taken, Unkept};
