@@ -1,9 +1,9 @@
 -- Checked operations as bounds.
-use Rattle.std.proofs.Common.{◌≡◌, Bool, true, false, if◌then◌else◌, Option, Some, None, Result, Ok, Err, refl, ap, ◌∙◌}
+use Rattle.std.proofs.Common.{◌≡◌, Bool, true, false, if◌then◌else◌, Option, Some, None, Result, Ok, Err, refl, sym, ap, ◌∙◌}
 use Rattle.mf_fraction.specs.declared.faults.Wide.{Wide}
 use Rattle.mf_fraction.specs.Checked.{checked, wide}
 use Rattle.mf_fraction.specs.Exact.{Number, fits}
-use Rattle.mf_task.specs.Layers.{Bound, Finite, Endless, if_it_fits}
+use Rattle.mf_task.specs.Layers.{Bound, Finite, Endless, if_it_fits, zero_number}
 use Rattle.mf_graph.specs.Bounds.{of_outcome}
 
 of_where : (b : Bool) (a : Number) → of_outcome (if b then Ok a else Err wide) ≡ (if b then Finite a else Endless)
@@ -16,3 +16,16 @@ of_checked a = of_where (fits a) a
 
 pub kept_is : (outcome : Result Number Wide) (a : Number) → outcome ≡ checked a → of_outcome outcome ≡ if_it_fits a
 kept_is outcome a e = ap of_outcome e ∙ of_checked a
+
+pub zero_fits : checked zero_number ≡ Ok zero_number
+unfolding checked fits
+zero_fits = refl
+
+pub zero_is : (a : Number) → checked zero_number ≡ Ok a → Finite a ≡ Finite zero_number
+zero_is a e = sym (ap of_outcome (sym zero_fits ∙ e))
+
+finite_is_not_endless : (a : Number) → Finite a ≡ Endless → ⊥
+finite_is_not_endless a e = cc
+
+pub zero_is_not_wide : (fault : Wide) → checked zero_number ≡ Err fault → ⊥
+zero_is_not_wide fault e = finite_is_not_endless zero_number (ap of_outcome (sym zero_fits ∙ e))

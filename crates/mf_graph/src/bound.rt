@@ -228,5 +228,9 @@ pub(crate) fn is_negative(a: Frac) -> bool
 fn is_less(a: Frac, b: Frac) -> bool
     ensures { result ≡ is_below a b }
 {
-    cmp(a, b) == Ordering::Less
+    match cmp(a, b) {
+        Ordering::Less => true,
+        Ordering::Equal => false,
+        Ordering::Greater => false,
+    }
 }
