@@ -21,8 +21,11 @@ pub zero_fits : checked zero_number ≡ Ok zero_number
 unfolding checked fits
 zero_fits = refl
 
-pub zero_is : (a : Number) → checked zero_number ≡ Ok a → Finite a ≡ Finite zero_number
-zero_is a e = sym (ap of_outcome (sym zero_fits ∙ e))
+pub zero_is : (a : Number) → checked zero_number ≡ Ok a → a ≡ zero_number
+zero_is a e = same_finite (ap of_outcome (sym e ∙ zero_fits))
+  where
+    same_finite : {a b : Number} → Finite a ≡ Finite b → a ≡ b
+    same_finite e = cc
 
 finite_is_not_endless : (a : Number) → Finite a ≡ Endless → ⊥
 finite_is_not_endless a e = cc

@@ -105,10 +105,7 @@ impl Bound {
     pub fn zero() -> Bound
         ensures { result ≡ Finite zero_number }
     {
-        match Frac::whole(0) {
-            Ok(number) => Bound::finite(number),
-            Err(Wide) => unreachable!(),
-        }
+        Bound::finite(zero_number())
     }
 
     /// The higher of two upper bounds: one without a number is beyond every number.
@@ -176,6 +173,16 @@ impl Bound {
         ensures { Decides result (self ≡ other) }
     {
         self.number == other.number
+    }
+}
+
+// The number 0.
+pub(crate) fn zero_number() -> Frac
+    ensures { result ≡ zero_number }
+{
+    match Frac::whole(0) {
+        Ok(number) => number,
+        Err(Wide) => unreachable!(),
     }
 }
 
