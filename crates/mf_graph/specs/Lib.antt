@@ -1,3 +1,4 @@
 pub mod Bounds
+pub mod FirstLevels
 pub mod LayerLists
 pub mod Wants

@@ -1,10 +1,14 @@
+//! Layers of possible atoms and bounds of terms over a row, and the levels of conditions and of the goal in them.
 #![tactic(auto)]
 
 mod bound;
 mod layer;
+mod level;
+mod levels;
 mod range;
 mod want;
 
 pub use bound::Bound;
 pub use layer::Layer;
+pub use levels::Levels;
 pub use range::Range;
