@@ -2,3 +2,4 @@ pub mod Numbers
 pub mod Signs
 pub mod Ranges
 pub mod Lists
+pub mod Inverses

@@ -1,4 +1,5 @@
 pub mod Bounds
 pub mod FirstLevels
+pub mod Gained
 pub mod LayerLists
 pub mod Wants

@@ -2,6 +2,7 @@
 #![tactic(auto)]
 
 mod bound;
+mod counting;
 mod layer;
 mod level;
 mod levels;
@@ -9,6 +10,7 @@ mod range;
 mod want;
 
 pub use bound::Bound;
+pub use counting::Counting;
 pub use layer::Layer;
 pub use levels::Levels;
 pub use range::Range;
