@@ -72,12 +72,7 @@ pub(crate) fn counting_of(
     counted(op, has_bounds, factor, range)
 }
 
-fn counted(
-    op: Op,
-    has_bounds: bool,
-    factor: Option<Frac>,
-    range: Option<Range>,
-) -> Option<Counting>
+fn counted(op: Op, has_bounds: bool, factor: Option<Frac>, range: Option<Range>) -> Option<Counting>
     ensures { result ≡ counting_with op has_bounds factor range }
 {
     let Some(range) = range else {

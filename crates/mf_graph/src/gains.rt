@@ -112,11 +112,7 @@ fn gain_change(
     Ok(())
 }
 
-fn gain_counting(
-    gains: &mut Gains,
-    term: u32,
-    counting: Option<Counting>,
-) -> Result<(), Memory>
+fn gain_counting(gains: &mut Gains, term: u32, counting: Option<Counting>) -> Result<(), Memory>
     ensures { OnOk result (gains.new ≡ with_counting gains.old term counting) }
 {
     if let Some(counting) = counting {

@@ -3,6 +3,7 @@
 
 mod bound;
 mod counting;
+mod gains;
 mod layer;
 mod level;
 mod levels;
@@ -11,6 +12,7 @@ mod want;
 
 pub use bound::Bound;
 pub use counting::Counting;
+pub use gains::{Counted, Gains};
 pub use layer::Layer;
 pub use levels::Levels;
 pub use range::Range;
