@@ -3,10 +3,12 @@
 
 mod bound;
 mod counting;
+mod ends;
 mod gains;
 mod layer;
 mod level;
 mod levels;
+mod moves;
 mod range;
 mod want;
 
