@@ -46,10 +46,7 @@ fn moved_range(range: Option<Range>, by: Move) -> Option<Range>
     ensures { result ≡ moved_range range by }
 {
     match range {
-        Some(range) => Some(Range::new(
-            range.low().minus(by.fall),
-            range.high().plus(by.rise),
-        )),
+        Some(range) => Some(Range::new(range.low().minus(by.fall), range.high().plus(by.rise))),
         None => None,
     }
 }

@@ -16,7 +16,11 @@ pub struct Move {
 }
 
 // How far the bounds of so many terms move, by the increases and decreases among the changes.
-pub(crate) fn moves_of(alloc: Global, terms: usize, counted: &[Counted]) -> Result<List<Move>, Memory>
+pub(crate) fn moves_of(
+    alloc: Global,
+    terms: usize,
+    counted: &[Counted],
+) -> Result<List<Move>, Memory>
     ensures { IfOk result (λ moves. moves ≡ fold with_move (replicate terms still) counted.now) }
 {
     let mut moves = List::from_vec(vec![in alloc; still(); terms]?);
