@@ -1,0 +1,5 @@
+pub mod Numbers
+pub mod Signs
+pub mod Ranges
+pub mod Lists
+pub mod Inverses

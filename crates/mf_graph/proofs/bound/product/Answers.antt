@@ -1,0 +1,6 @@
+use Rattle.std.proofs.Common.{◌∙◌}
+use Rattle.mf_graph.proofs.Numbers.{kept_is}
+use Rattle.mf_graph.proofs.bound.product.Goals as goal
+
+pub returns : goal.returns
+returns c = c.kept.ensures ∙ kept_is c.mul.result _ c.mul.ensures
