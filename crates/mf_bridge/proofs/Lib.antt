@@ -34,3 +34,4 @@ pub mod ApplicableActions
 pub mod SameDeeds
 pub mod FiredNames
 pub mod LowestForms
+pub mod GroundSuccessors

@@ -6,3 +6,4 @@ pub mod UnlistedAtoms
 pub mod ListedForms
 pub mod Deeds
 pub mod ListedChanges
+pub mod GroundSuccessors

@@ -11,6 +11,7 @@ mod forms;
 mod lowest_forms;
 mod next_rows;
 mod rows;
+mod successors;
 mod unlisted_atoms;
 
 pub use actions::actions_are_applicable_alike;
@@ -28,6 +29,7 @@ pub use rows::{
     rows_are_told_apart_by_states, rows_show_their_states, rows_stand_for_search_states,
     starts_are_start_rows,
 };
+pub use successors::{successors_are_ground_successors, values_are_ground_values};
 pub use unlisted_atoms::rows_hide_unlisted_atoms;
 
 #[cfg(test)]
