@@ -8,6 +8,7 @@ pub mod Ordered
 pub mod Outcomes
 pub mod Parts
 pub mod Placing
+pub mod Searching
 pub mod Sorting
 pub mod Threading
 pub mod Truths
