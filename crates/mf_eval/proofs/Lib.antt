@@ -10,6 +10,7 @@ pub mod Parts
 pub mod Placing
 pub mod Searching
 pub mod Sorting
+pub mod TermObjects
 pub mod Threading
 pub mod Truths
 pub mod Zero

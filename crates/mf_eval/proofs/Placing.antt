@@ -140,6 +140,19 @@ module _ (values : List Valued) (v : Valued) (i : ℕ) (sorted : IsSortedList ce
     pub value_at_gap : value_at values v.cell.function v.cell.objects ≡ None
     value_at_gap = ap (λ (ws : List Valued). value_at ws v.cell.function v.cell.objects) (sym (take-append-drop i values)) ∙ value_at-between (take i values) (drop i values) v value_front_of_gap value_rest_of_gap
 
+-- what values have of the function at these objects
+module _ (values : List Valued) (function : ℕ) (objects : List ℕ) (i : ℕ) (sorted : IsSortedList cell_before values) where
+  asked : Valued
+  asked = record { cell = record { function = function; objects = objects }; value = whole (pos 0) }
+
+  pub value_found : (w : Valued) → i < length values → HoldsAt (λ w. key_cmp w.cell.function w.cell.objects function objects ≡ Equal) values i → w ≡ get_or values i w → Some (get_or values i w).value ≡ value_at values function objects
+  unfolding asked
+  value_found w within found is = ap (λ (u : Valued). Some u.value) (sym is) ∙ sym (value_at_found values asked i sorted within found w is)
+
+  pub value_missing : i ≤ length values → (IsNonDecreasingBy (λ w. ordering_index (key_cmp w.cell.function w.cell.objects function objects)) values → IsPartitionPoint (λ w. key_cmp w.cell.function w.cell.objects function objects ≡ Less) (λ w. key_cmp w.cell.function w.cell.objects function objects ≡ Greater) values i) → None ≡ value_at values function objects
+  unfolding asked
+  value_missing within parts = sym (value_at_gap values asked i sorted within parts)
+
 pub value_place : (values : List Valued) (v : Valued) (r : Result ℕ ℕ) → IsSortedList cell_before values → IsSearchInRange r (length values) → IsBinarySearchResult (λ w. cell_cmp w.cell v.cell) values r → IsValuePlace values v r
 value_place values v (Ok i) sorted within found = (within, with_value_found values v i sorted within found)
 value_place values v (Err i) sorted within parts = (within, with_value_gap values v i sorted within parts)

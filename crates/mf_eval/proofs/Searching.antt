@@ -1,12 +1,14 @@
 -- What a binary search of a sorted list finds.
-use Rattle.std.proofs.Common.{◌≡◌, ℕ, zero, suc, ◌+◌, ◌<◌, ◌≤◌, Bool, true, false, List, [], ◌∷◌, ◌++◌, length, get_or, take, drop, drop-cons, HoldsAt, refl, sym, subst, ap, ◌∙◌, arith}
+use Rattle.std.proofs.Common.{◌≡◌, ℕ, zero, suc, ◌+◌, ◌<◌, ◌≤◌, Bool, true, false, List, [], ◌∷◌, ◌++◌, length, get_or, take, drop, drop-cons, HoldsAt, Bor, Result, refl, sym, subst, ap, ◌∙◌, arith}
 use Rattle.std.proofs.lemmas.List.{get_or-drop, get_or-take, length-drop, length-take, take-append-drop}
 use Rattle.std.proofs.lemmas.List.Elements.{All-from_recursion, recursion_from_All}
 use Rattle.std.proofs.lemmas.List.Sorted.{searchable_from_sorted}
 use Rattle.std.proofs.lemmas.Bool.{false≢true}
+use Rattle.std.proofs.lemmas.Fn.{always_returns_same}
 use Rattle.std.specs.Cmp.{IsTotalOrder}
+use Rattle.std.specs.Fn.{Called, ComputesKey, Mut}
 use Rattle.std.specs.List.{AllByRecursion, AllWithin}
-use Rattle.std.specs.List.Sorted.{IsNonDecreasingBy, IsPartitionPoint, IsSorted}
+use Rattle.std.specs.List.Sorted.{IsBinarySearchResult, IsNonDecreasingBy, IsPartitionPoint, IsSorted}
 use Rattle.std.specs.Ordering.{is_lt, ordering_index, ordering_reverse}
 use Rattle.std.specs.declared.cmp.Ordering.{Ordering}
 use Rattle.std.specs.declared.cmp.Ordering.TheVariants.{Less, Equal, Greater}
@@ -77,3 +79,9 @@ module _ {X : Type 0} (before : X → X → Bool) (R : X → X → Ordering) (to
       gap_rest = all-drop (λ y. before x y ≡ true) xs i within (λ k d low high.
           let y = get_or xs k d in
           from_less x y (total.antisymm x y ∙ ap ordering_reverse ((parts (searchable_from_sorted total (λ y. y) xs x (compared xs sorted))).1 k d low high)))
+
+-- what a search by a closure says, where each call answers what `ord` gives
+pub searched_by : {F X : Type 0} {g : Mut F (Bor X × Unit {0}) Ordering} {f : F} (ord : X → Ordering) (xs : List X) (r : Result ℕ ℕ)
+    → ((by : X → Ordering) → ComputesKey g by f → IsBinarySearchResult by xs r)
+    → ((a : Bor X × Unit {0}) (o : Ordering) (f' : F) → Called g f a o f' → (o ≡ ord a.0.now) × (f' ≡ f)) → IsBinarySearchResult ord xs r
+searched_by {g = g} {f = f} ord xs r found answers = found ord (always_returns_same g (λ a o. o ≡ ord a.0.now) f answers)
