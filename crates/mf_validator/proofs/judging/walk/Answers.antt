@@ -23,8 +23,8 @@ returns-in-Err c =
     let i = c.loop-done.done in
     let step = c.index-plan-done.result in
     let judged = step-at task plan i c.loop-done.state step c.loop-done-test.true c.index-plan-done.is in
-    let refused = step_refused (i + 1) (verdict_from task (drop (i + 1) plan) (i + 1)) (outcome_of task c.loop-done.state step) c.in-Err.fault c.in-Err.ensures in
-    rw c.refused.ensures (subst (λ (v : Result Verdict JudgeFault). Gives v (refused_verdict (i + 1) c.in-Err.fault)) (sym judged ∙ c.loop-done.invariant) refused)
+    let refused = step_refused (i + 1) (verdict_from task (drop (i + 1) plan) (i + 1)) (outcome_of task c.loop-done.state step) c.in-Err.fault c.in-Err.ensures.outcome in
+    rw c.refused.ensures (subst (λ (v : Result Verdict JudgeFault). Gives v (refused_verdict (i + 1) c.in-Err.fault)) (sym judged ∙ c.loop-done.invariant.verdict) refused)
 
 pub loop-done-preserved : goal.loop-done-preserved
 loop-done-preserved c =
@@ -32,6 +32,9 @@ loop-done-preserved c =
     let plan = c.args.plan.now in
     let i = c.loop-done.done in
     let step = c.index-plan-done.result in
-    sym (step_done (i + 1) (verdict_from task (drop (i + 1) plan) (i + 1)) (outcome_of task c.loop-done.state step) c.in-Ok.next c.in-Ok.ensures)
-    ∙ sym (step-at task plan i c.loop-done.state step c.loop-done-test.true c.index-plan-done.is)
-    ∙ c.loop-done.invariant
+    record {
+      sorted = c.in-Ok.ensures.sorted;
+      verdict = sym (step_done (i + 1) (verdict_from task (drop (i + 1) plan) (i + 1)) (outcome_of task c.loop-done.state step) c.in-Ok.next c.in-Ok.ensures.outcome)
+          ∙ sym (step-at task plan i c.loop-done.state step c.loop-done-test.true c.index-plan-done.is)
+          ∙ c.loop-done.invariant.verdict;
+    }
