@@ -1,5 +1,5 @@
 -- Sorted atoms and values as the keys and entries of ordered sets and maps.
-use Rattle.std.proofs.Common.{◌≡◌, ℕ, ◌+◌, ◌<◌, Bool, true, false, ◌&&◌, if◌then◌else◌, nat_eq, List, [], ◌∷◌, length, map, get_or, drop, refl, sym, ap, ◌∙◌, arith}
+use Rattle.std.proofs.Common.{◌≡◌, ℕ, ◌+◌, ◌<◌, Bool, true, ◌&&◌, if◌then◌else◌, nat_eq, List, [], ◌∷◌, length, map, get_or, drop, refl, sym, ap, ◌∙◌, arith}
 use Rattle.std.proofs.lemmas.Bool.Decides.{nat_tests}
 use Rattle.std.proofs.lemmas.List.{drop_more}
 use Rattle.std.specs.BTreeMap.{insert_entry}
@@ -13,7 +13,6 @@ use Rattle.std.specs.declared.cmp.Ordering.TheVariants.{Less, Equal, Greater}
 use Rattle.mf_fraction.specs.Exact.{Number}
 use Rattle.mf_model.specs.declared.task.Atom.{Atom}
 use Rattle.mf_model.specs.declared.task.Cell.{Cell}
-use Rattle.mf_model.specs.declared.task.Valued.{Valued}
 use Rattle.mf_model.specs.States.{atom_before, same_atom, same_cell, same_numbers, term_before, with_atom, with_value}
 use Rattle.mf_eval.specs.Comparisons.{atom_cmp, cell_cmp, key_cmp}
 use Rattle.mf_eval.specs.Entries.{as_valued}
