@@ -1,13 +1,14 @@
-use Rattle.std.proofs.Common.{sym, ◌∙◌, subst, ◌+◌, Result, drop}
+use Rattle.std.proofs.Common.{◌≡◌, ℕ, ◌+◌, ◌≤◌, List, length, drop, Result, sym, subst, ap, ◌∙◌, arith}
 use Rattle.std.specs.List.{Contains}
+use Rattle.std.proofs.lemmas.List.{drop_all}
 use Rattle.std.proofs.lemmas.List.Elements.{All-get_or}
 use Rattle.mf_model.specs.declared.state.Instance.{Instance}
 use Rattle.mf_model.specs.Application.{instances_of}
 use Rattle.mf_eval.specs.Outcome.{outcome_of}
 use Rattle.mf_validator.specs.declared.fault.JudgeFault.{JudgeFault}
 use Rattle.mf_validator.specs.declared.verdict.Verdict.{Verdict}
-use Rattle.mf_validator.specs.Verdicts.{Gives, refused_verdict, verdict_from}
-use Rattle.mf_validator.proofs.VerdictLemmas.{step-at, step_done, step_refused}
+use Rattle.mf_validator.specs.Verdicts.{Gives, end_verdict, refused_verdict, verdict_from, verdict_of}
+use Rattle.mf_validator.proofs.VerdictLemmas.{given_itself, step-at, step_done, step_refused}
 use Rattle.mf_validator.proofs.judging.walk.Goals as goal
 
 pub apply-requires-clause-step : goal.apply-requires-clause-step
@@ -38,3 +39,17 @@ loop-done-preserved c =
           ∙ sym (step-at task plan i c.loop-done.state step c.loop-done-test.true c.index-plan-done.is)
           ∙ c.loop-done.invariant.verdict;
     }
+
+pub returns : goal.returns
+returns c =
+    let task = c.args.task.now in
+    let plan = c.args.plan.now in
+    let i = c.loop-done.done in
+    let state = c.loop-done.state in
+    let past : length plan ≤ i = omega (arith, c.loop-done-test.false) in
+    let end : i ≡ length plan = omega (arith, past, c.loop-done.auto.done-end) in
+    let same : c.conclude.result ≡ verdict_of task plan =
+    c.conclude.ensures ∙ ap (λ (n : ℕ). end_verdict task n state) (sym end)
+    ∙ sym (ap (λ (steps : List Instance). verdict_from task steps i state) (drop_all i plan past))
+    ∙ c.loop-done.invariant.verdict in
+    subst (λ (v : Result Verdict JudgeFault). Gives (verdict_of task plan) v) (sym same) (given_itself (verdict_of task plan))
