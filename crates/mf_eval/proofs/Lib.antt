@@ -8,7 +8,9 @@ pub mod Ordered
 pub mod Outcomes
 pub mod Parts
 pub mod Placing
+pub mod Searching
 pub mod Sorting
+pub mod TermObjects
 pub mod Threading
 pub mod Truths
 pub mod Zero

@@ -1,5 +1,5 @@
 -- Sorted atoms and values as the keys and entries of ordered sets and maps.
-use Rattle.std.proofs.Common.{◌≡◌, ℕ, ◌+◌, ◌<◌, Bool, true, false, ◌&&◌, if◌then◌else◌, nat_eq, List, [], ◌∷◌, length, map, get_or, drop, refl, sym, ap, ◌∙◌, arith}
+use Rattle.std.proofs.Common.{◌≡◌, ℕ, ◌+◌, ◌<◌, Bool, true, ◌&&◌, if◌then◌else◌, nat_eq, List, [], ◌∷◌, length, map, get_or, drop, refl, sym, ap, ◌∙◌, arith}
 use Rattle.std.proofs.lemmas.Bool.Decides.{nat_tests}
 use Rattle.std.proofs.lemmas.List.{drop_more}
 use Rattle.std.specs.BTreeMap.{insert_entry}
@@ -13,18 +13,15 @@ use Rattle.std.specs.declared.cmp.Ordering.TheVariants.{Less, Equal, Greater}
 use Rattle.mf_fraction.specs.Exact.{Number}
 use Rattle.mf_model.specs.declared.task.Atom.{Atom}
 use Rattle.mf_model.specs.declared.task.Cell.{Cell}
-use Rattle.mf_model.specs.declared.task.Valued.{Valued}
 use Rattle.mf_model.specs.States.{atom_before, same_atom, same_cell, same_numbers, term_before, with_atom, with_value}
+use Rattle.mf_eval.specs.Comparisons.{atom_cmp, cell_cmp, key_cmp}
 use Rattle.mf_eval.specs.Entries.{as_valued}
 use Rattle.mf_model.proofs.Orders.{pair_before}
-
-abbrev pub pair_cmp : ℕ → List ℕ → ℕ → List ℕ → Ordering
-pair_cmp n ns m ms = ordering_then (nat_cmp n m) (slice_cmp nat_cmp ns ms)
 
 first_same : (n m : ℕ) (o : Ordering) → (nat_eq n m && is_eq o) ≡ is_eq (ordering_then (nat_cmp n m) o)
 first_same n m o = grind (arith, nat_tests)
 
-pub pair_same : (n m : ℕ) (ns ms : List ℕ) → (nat_eq n m && same_numbers ns ms) ≡ is_eq (pair_cmp n ns m ms)
+pub pair_same : (n m : ℕ) (ns ms : List ℕ) → (nat_eq n m && same_numbers ns ms) ≡ is_eq (key_cmp n ns m ms)
 pair_same n m ns ms = ap (λ b. nat_eq n m && b) (texts_ties ns ms) ∙ first_same n m (slice_cmp nat_cmp ns ms)
 
 -- what an order chooses is what the tests of the definitions choose
@@ -33,18 +30,12 @@ chosen Less same before x y there z rest e f g h = rw (e, ← f) refl
 chosen Equal same before x y there z rest e f g h = rw e (g e)
 chosen Greater same before x y there z rest e f g h = rw (e, ← f) h
 
-abbrev pub atom_cmp : Atom → Atom → Ordering
-atom_cmp a b = pair_cmp a.predicate a.objects b.predicate b.objects
-
 pub with_atom_insert : (atoms : List Atom) (a : Atom) → insert_key atom_cmp atoms a ≡ with_atom atoms a
 with_atom_insert [] a = refl
 with_atom_insert (b ∷ bs) a =
     chosen (atom_cmp a b) (same_atom a b) (atom_before a b) (a ∷ b ∷ bs) (b ∷ bs) (b ∷ bs) (b ∷ insert_key atom_cmp bs a) (b ∷ with_atom bs a)
     (pair_same a.predicate b.predicate a.objects b.objects) (pair_before a.predicate b.predicate a.objects b.objects)
     (λ _. refl) (ap (λ rest. b ∷ rest) (with_atom_insert bs a))
-
-abbrev pub cell_cmp : Cell → Cell → Ordering
-cell_cmp c d = pair_cmp c.function c.objects d.function d.objects
 
 same_number : (n m : ℕ) → nat_eq n m ≡ true → n ≡ m
 same_number n m e = grind (arith, nat_tests)

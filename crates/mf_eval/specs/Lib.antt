@@ -1,5 +1,6 @@
 pub mod Answers
 pub mod Checked
+pub mod Comparisons
 pub mod Entries
 pub mod Fired
 pub mod Judged

@@ -1,9 +1,10 @@
 ghost use Rattle.mf_eval.specs.Fired.{changes_in};
 ghost use Rattle.mf_eval.specs.Outcome.{Gives, changed_outcome, outcome_for, outcome_of};
+ghost use Rattle.mf_meaning.specs.SortedStates.{IsSortedState};
 ghost use Rattle.mf_model.specs.Application.{instances_of};
 ghost use Rattle.mf_model.specs.ResolvedTask.{IsResolvedTask};
 ghost use Rattle.mf_model.specs.VariableScopes.{action_scope_of};
-ghost use Rattle.std.specs.Prelude.{◌+◌, ◌≤◌, Contains, Some, length};
+ghost use Rattle.std.specs.Prelude.{◌+◌, ◌≤◌, Contains, IfOk, Some, length};
 
 use crate::atoms::changed_atoms;
 use crate::binding::places;
@@ -17,7 +18,7 @@ use crate::values::changed_values;
 use mf_model::{Action, Instance, List, PlainState, TypedTask};
 use std::alloc::Global;
 
-/// The state after an applicable instance. All its effects read the old state, and an atom that is both
+/// The state after an applicable instance, sorted like the old one. All its effects read the old state, and an atom that is both
 /// deleted and added is true.
 ///
 /// Else the first of these: `Wide` where the precondition is wide; `Condition` where it does not hold;
@@ -32,8 +33,10 @@ pub fn apply(
     state: &PlainState,
 ) -> Result<PlainState, ApplyFault>
     requires resolved { IsResolvedTask task.now }
+    requires sorted { IsSortedState state.now }
     requires step { Contains (instances_of task.now) instance.now }
-    ensures { Gives (outcome_of task.now state.now instance.now) result }
+    ensures outcome { Gives (outcome_of task.now state.now instance.now) result }
+    ensures sorted { IfOk result (λ next. IsSortedState next) }
 {
     let Some(action) = task.actions.get(usize::from(instance.action)) else {
         return Err(ApplyFault::NotApplicable {
@@ -54,9 +57,11 @@ pub(crate) fn apply_action(
     action: &Action,
     objects: &[u16],
 ) -> Result<PlainState, ApplyFault>
+    requires sorted { IsSortedState scene.now.state.now }
     requires objects { length scene.now.task.now.objects ≤ 65535 }
     requires variables { length objects.now + action_scope_of (Some action.now) ≤ 64 }
-    ensures { Gives (outcome_for scene.now.task.now scene.now.state.now objects.now (Some action.now)) result }
+    ensures outcome { Gives (outcome_for scene.now.task.now scene.now.state.now objects.now (Some action.now)) result }
+    ensures sorted { IfOk result (λ next. IsSortedState next) }
 {
     let mut binding = places(alloc, objects);
     if !is_met(scene, &action.condition, &mut binding)? {
@@ -71,7 +76,9 @@ pub(crate) fn apply_action(
 
 // The state after the changes.
 fn change(alloc: Global, state: &PlainState, deeds: &[Deed]) -> Result<PlainState, ApplyFault>
-    ensures { Gives (changed_outcome state.now (changes_in deeds.now)) result }
+    requires { IsSortedState state.now }
+    ensures outcome { Gives (changed_outcome state.now (changes_in deeds.now)) result }
+    ensures sorted { IfOk result (λ next. IsSortedState next) }
 {
     if !are_defined(state, deeds) {
         return Err(ApplyFault::NotApplicable {

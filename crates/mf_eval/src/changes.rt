@@ -1,16 +1,19 @@
 ghost use Rattle.mf_eval.specs.Fired.{change_of, changes_in};
+ghost use Rattle.mf_meaning.specs.SortedStates.{IsSortedState};
 ghost use Rattle.mf_model.specs.Application.{changes_cell, divides_by_zero, is_apart, is_defined, is_sum_change, reads_old};
-ghost use Rattle.mf_model.specs.States.{look_of, value_at};
+ghost use Rattle.mf_model.specs.States.{look_of};
 ghost use Rattle.std.specs.List.{list_all};
 ghost use Rattle.std.specs.Prelude.{◌≡◌, filter, length};
 
 use crate::deed::Deed;
 use crate::order::is_same_cell;
+use crate::stored::value_of;
 use mf_fraction::{Frac, sign};
-use mf_model::{Cell, Op, PlainState, Valued};
+use mf_model::{Cell, Op, PlainState};
 
 // Whether every change reads only defined values.
 pub(crate) fn are_defined(state: &PlainState, deeds: &[Deed]) -> bool
+    requires { IsSortedState state.now }
     ensures { result ≡ list_all (is_defined (look_of state.now)) (changes_in deeds.now) }
 {
     for deed in deeds {
@@ -22,6 +25,7 @@ pub(crate) fn are_defined(state: &PlainState, deeds: &[Deed]) -> bool
 }
 
 fn is_deed_defined(state: &PlainState, deed: &Deed) -> bool
+    requires { IsSortedState state.now }
     ensures { result ≡ is_defined (look_of state.now) (change_of deed.now) }
 {
     match deed {
@@ -54,18 +58,6 @@ fn reads_old_value(op: Op) -> bool
         Op::ScaleUp => true,
         Op::ScaleDown => true,
     }
-}
-
-// The value of a ground function term, if it is defined.
-pub(crate) fn value_of(values: &[Valued], cell: &Cell) -> Option<Frac>
-    ensures { result ≡ value_at values.now cell.now.function cell.now.objects }
-{
-    for valued in values {
-        if is_same_cell(cell, &valued.cell) {
-            return Some(valued.value);
-        }
-    }
-    None
 }
 
 // Whether, for each term, the changes are increases and decreases alone, or exactly one.

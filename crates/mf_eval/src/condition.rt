@@ -1,5 +1,6 @@
 ghost use Rattle.mf_eval.specs.Answers.{answered};
 ghost use Rattle.mf_eval.specs.Judged.{judged, judged_all, judged_parts, judged_quantifier, judged_with, met};
+ghost use Rattle.mf_meaning.specs.SortedStates.{IsSortedState};
 ghost use Rattle.mf_model.specs.ResolvedTask.{IsResolvedTask};
 ghost use Rattle.mf_model.specs.VariableScopes.{scope_of};
 ghost use Rattle.mf_model.specs.Trees.{greatest};
@@ -19,7 +20,7 @@ use mf_fraction::Wide;
 use mf_model::{Cond, PlainState, Truth, TypedTask, Types};
 use smallvec::SmallVec;
 
-/// Whether a condition holds, fails or does neither at a state, under a binding of its free variables.
+/// Whether a condition holds, fails or does neither at a sorted state, under a binding of its free variables.
 /// It takes no memory.
 ///
 /// `Wide` comes exactly where some subexpression, for some binding of the quantifiers round it, has a
@@ -31,6 +32,7 @@ pub fn holds(
     state: &PlainState,
 ) -> Result<Truth, Wide>
     requires resolved { IsResolvedTask task.now }
+    requires sorted { IsSortedState state.now }
     requires variables { length binding.now + scope_of condition.now ≤ 64 }
     ensures { result ≡ answered (is_condition_wide (kinds_of task.now) (look_of state.now) condition.now binding.now)
         (truth_in (kinds_of task.now) (look_of state.now) condition.now binding.now) }
@@ -45,6 +47,7 @@ pub(crate) fn is_met(
     condition: &Cond,
     binding: &mut SmallVec<u16, 64>,
 ) -> Result<bool, Wide>
+    requires sorted { IsSortedState scene.now.state.now }
     requires objects { length scene.now.task.now.objects ≤ 65535 }
     requires room { HasRoomFor binding.old (scope_of condition.now) }
     requires few { scope_of condition.now ≤ 64 }
@@ -60,6 +63,7 @@ pub(crate) fn judge(
     condition: &Cond,
     binding: &mut SmallVec<u16, 64>,
 ) -> Result<Truth, Wide>
+    requires sorted { IsSortedState scene.now.state.now }
     requires objects { length scene.now.task.now.objects ≤ 65535 }
     requires room { HasRoomFor binding.old (scope_of condition.now) }
     requires few { scope_of condition.now ≤ 64 }
@@ -102,6 +106,7 @@ fn judge_parts(
     parts: &[Cond],
     binding: &mut SmallVec<u16, 64>,
 ) -> Result<Truth, Wide>
+    requires sorted { IsSortedState scene.now.state.now }
     requires objects { length scene.now.task.now.objects ≤ 65535 }
     requires room { HasRoomFor binding.old (greatest (map scope_of parts.now)) }
     requires few { greatest (map scope_of parts.now) ≤ 64 }
@@ -126,6 +131,7 @@ fn judge_all(
     part: &Cond,
     binding: &mut SmallVec<u16, 64>,
 ) -> Result<Truth, Wide>
+    requires sorted { IsSortedState scene.now.state.now }
     requires objects { length scene.now.task.now.objects ≤ 65535 }
     requires room { HasRoomFor binding.old (length variables.now + scope_of part.now) }
     requires few { length variables.now + scope_of part.now ≤ 64 }
@@ -149,6 +155,7 @@ fn judge_objects(
     part: &Cond,
     binding: &mut SmallVec<u16, 64>,
 ) -> Result<Truth, Wide>
+    requires sorted { IsSortedState scene.now.state.now }
     requires objects { length scene.now.task.now.objects ≤ 65535 }
     requires room { HasRoomFor binding.old (1 + length others.now + scope_of part.now) }
     requires few { 1 + length others.now + scope_of part.now ≤ 64 }
@@ -178,6 +185,7 @@ fn judge_object(
     part: &Cond,
     binding: &mut SmallVec<u16, 64>,
 ) -> Result<Truth, Wide>
+    requires sorted { IsSortedState scene.now.state.now }
     requires objects { length scene.now.task.now.objects ≤ 65535 }
     requires room { HasRoomFor binding.old (1 + length others.now + scope_of part.now) }
     requires few { 1 + length others.now + scope_of part.now ≤ 64 }

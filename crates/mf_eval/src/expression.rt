@@ -2,6 +2,7 @@ ghost use Rattle.mf_eval.specs.Answers.{answered};
 ghost use Rattle.mf_eval.specs.Checked.{kept, kept_all, kept_parts, kept_value};
 ghost use Rattle.mf_eval.specs.Width.{is_wide};
 ghost use Rattle.mf_fraction.specs.Exact.{whole};
+ghost use Rattle.mf_meaning.specs.SortedStates.{IsSortedState};
 ghost use Rattle.mf_model.specs.Meaning.{value_of};
 ghost use Rattle.mf_model.specs.States.{look_after};
 ghost use Rattle.std.specs.Prelude.{◌≡◌, pos, []};
@@ -14,7 +15,7 @@ use mf_model::{Expr, PlainState, TypedTask};
 // The greatest whole number that is kept.
 const LIMIT: u64 = 1 << 62;
 
-/// The value of an expression at a state under a binding: `None` exactly where it reads an undefined
+/// The value of an expression at a sorted state under a binding: `None` exactly where it reads an undefined
 /// term or divides by 0. `TotalTime` is `steps`.
 ///
 /// `Wide` comes exactly where some subexpression, fronts of sums and products among them, has a
@@ -26,6 +27,7 @@ pub fn value(
     state: &PlainState,
     steps: u64,
 ) -> Result<Option<Frac>, Wide>
+    requires { IsSortedState state.now }
     ensures { result ≡ answered (is_wide (look_after steps state.now) expression.now binding.now)
         (value_of (look_after steps state.now) expression.now binding.now) }
 {
@@ -40,6 +42,7 @@ pub(crate) fn evaluate(
     state: &PlainState,
     steps: u64,
 ) -> Result<Option<Frac>, Wide>
+    requires { IsSortedState state.now }
     ensures { result ≡ kept_value (look_after steps state.now) expression.now binding.now }
 {
     match expression {
@@ -78,6 +81,7 @@ fn fold_parts(
     state: &PlainState,
     steps: u64,
 ) -> Result<Option<Frac>, Wide>
+    requires { IsSortedState state.now }
     ensures { result ≡ kept_all operation (kept_parts (look_after steps state.now) parts.now binding.now) }
 {
     let Some((first, others)) = parts.split_first() else {

@@ -1,5 +1,6 @@
 ghost use Rattle.mf_eval.specs.Fired.{changes_in, fired, fired_each, fired_parts, fired_when, fired_with, threaded};
 ghost use Rattle.mf_eval.specs.Outcome.{Reads};
+ghost use Rattle.mf_meaning.specs.SortedStates.{IsSortedState};
 ghost use Rattle.mf_model.specs.VariableScopes.{effect_scope_of, scope_of};
 ghost use Rattle.mf_model.specs.Trees.{greatest};
 ghost use Rattle.mf_model.specs.Objects.{having, kinds_of};
@@ -24,6 +25,7 @@ pub(crate) fn fire(
     binding: &mut SmallVec<u16, 64>,
     deeds: &mut Vec<Deed>,
 ) -> Result<(), ApplyFault>
+    requires sorted { IsSortedState scene.now.state.now }
     requires objects { length scene.now.task.now.objects ≤ 65535 }
     requires room { HasRoomFor binding.old (effect_scope_of effect.now) }
     requires few { effect_scope_of effect.now ≤ 64 }
@@ -66,6 +68,7 @@ fn fire_when(
     binding: &mut SmallVec<u16, 64>,
     deeds: &mut Vec<Deed>,
 ) -> Result<(), ApplyFault>
+    requires sorted { IsSortedState scene.now.state.now }
     requires objects { length scene.now.task.now.objects ≤ 65535 }
     requires room { HasRoomFor binding.old (max (scope_of condition.now) (effect_scope_of part.now)) }
     requires few { max (scope_of condition.now) (effect_scope_of part.now) ≤ 64 }
@@ -88,6 +91,7 @@ fn fire_parts(
     binding: &mut SmallVec<u16, 64>,
     deeds: &mut Vec<Deed>,
 ) -> Result<(), ApplyFault>
+    requires sorted { IsSortedState scene.now.state.now }
     requires objects { length scene.now.task.now.objects ≤ 65535 }
     requires room { HasRoomFor binding.old (greatest (map effect_scope_of parts.now)) }
     requires few { greatest (map effect_scope_of parts.now) ≤ 64 }
@@ -111,6 +115,7 @@ fn fire_each(
     binding: &mut SmallVec<u16, 64>,
     deeds: &mut Vec<Deed>,
 ) -> Result<(), ApplyFault>
+    requires sorted { IsSortedState scene.now.state.now }
     requires objects { length scene.now.task.now.objects ≤ 65535 }
     requires room { HasRoomFor binding.old (length variables.now + effect_scope_of part.now) }
     requires few { length variables.now + effect_scope_of part.now ≤ 64 }
@@ -136,6 +141,7 @@ fn fire_objects(
     binding: &mut SmallVec<u16, 64>,
     deeds: &mut Vec<Deed>,
 ) -> Result<(), ApplyFault>
+    requires sorted { IsSortedState scene.now.state.now }
     requires objects { length scene.now.task.now.objects ≤ 65535 }
     requires room { HasRoomFor binding.old (1 + length others.now + effect_scope_of part.now) }
     requires few { 1 + length others.now + effect_scope_of part.now ≤ 64 }
@@ -163,6 +169,7 @@ fn fire_object(
     binding: &mut SmallVec<u16, 64>,
     deeds: &mut Vec<Deed>,
 ) -> Result<(), ApplyFault>
+    requires sorted { IsSortedState scene.now.state.now }
     requires objects { length scene.now.task.now.objects ≤ 65535 }
     requires room { HasRoomFor binding.old (1 + length others.now + effect_scope_of part.now) }
     requires few { 1 + length others.now + effect_scope_of part.now ≤ 64 }

@@ -1,4 +1,5 @@
 ghost use Rattle.mf_eval.specs.Judged.{judged_comparison};
+ghost use Rattle.mf_meaning.specs.SortedStates.{IsSortedState};
 ghost use Rattle.mf_model.specs.Meaning.{compared, ordered, truth_of};
 ghost use Rattle.mf_model.specs.States.{look_of};
 ghost use Rattle.mf_model.specs.Views.{object_of, objects_of};
@@ -17,6 +18,7 @@ pub(crate) fn judge_atom(
     terms: &List<Term>,
     binding: &[u16],
 ) -> Truth
+    requires { IsSortedState state.now }
     ensures { result ≡ truth_of ((look_of state.now).atom predicate (objects_of binding.now terms.now)) }
 {
     truth(is_true(state.atoms.as_slice(), predicate, terms.as_slice(), binding))
@@ -36,6 +38,7 @@ pub(crate) fn judge_comparison(
     binding: &[u16],
     state: &PlainState,
 ) -> Result<Truth, Wide>
+    requires { IsSortedState state.now }
     ensures { result ≡ judged_comparison (look_of state.now) relation left.now right.now binding.now }
 {
     let left = evaluate(left, binding, state, 0)?;

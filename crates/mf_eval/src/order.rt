@@ -1,14 +1,13 @@
-ghost use Rattle.mf_model.specs.States.{atom_before, cell_before, numbers_before, same_atom, same_numbers};
+ghost use Rattle.mf_eval.specs.Comparisons.{key_cmp};
+ghost use Rattle.mf_model.specs.States.{same_numbers};
+ghost use Rattle.mf_model.specs.Views.{objects_of};
+ghost use Rattle.std.specs.Cmp.Lexicographic.{slice_cmp};
+ghost use Rattle.std.specs.Ordering.{nat_cmp};
 ghost use Rattle.std.specs.Prelude.{◌≡◌, ◌&&◌, nat_eq};
 
-use mf_model::{Atom, Cell, Valued};
-
-pub(crate) fn is_same_atom(left: &Atom, right: &Atom) -> bool
-    ensures { result ≡ same_atom left.now right.now }
-{
-    left.predicate == right.predicate
-        && is_same_objects(left.objects.as_slice(), right.objects.as_slice())
-}
+use crate::binding::object_at;
+use mf_model::{Atom, Cell, Term};
+use std::cmp::Ordering;
 
 pub(crate) fn is_same_cell(left: &Cell, right: &Cell) -> bool
     ensures { result ≡ (nat_eq left.now.function right.now.function && same_numbers left.now.objects right.now.objects) }
@@ -23,37 +22,43 @@ fn is_same_objects(left: &[u16], right: &[u16]) -> bool
     left == right
 }
 
-// Whether the atom comes before the other in a sorted list.
-pub(crate) fn is_atom_before(left: &Atom, right: &Atom) -> bool
-    ensures { result ≡ atom_before left.now right.now }
+// How an atom stands to the atom of the predicate at these terms.
+pub(crate) fn compare_atom(atom: &Atom, predicate: u16, terms: &[Term], binding: &[u16]) -> Ordering
+    ensures { result ≡ key_cmp atom.now.predicate atom.now.objects predicate (objects_of binding.now terms.now) }
 {
-    if left.predicate != right.predicate {
-        return left.predicate < right.predicate;
-    }
-    is_before(left.objects.as_slice(), right.objects.as_slice())
+    atom.predicate.cmp(&predicate).then_with(|| compare_objects(
+        atom.objects.as_slice(),
+        terms,
+        binding,
+    ))
 }
 
-// Whether the value's term comes before the other's in a sorted list.
-pub(crate) fn is_cell_before(left: &Valued, right: &Valued) -> bool
-    ensures { result ≡ cell_before left.now right.now }
+// How a ground function term stands to the one of the function at these terms.
+pub(crate) fn compare_cell(cell: &Cell, function: u16, terms: &[Term], binding: &[u16]) -> Ordering
+    ensures { result ≡ key_cmp cell.now.function cell.now.objects function (objects_of binding.now terms.now) }
 {
-    if left.cell.function != right.cell.function {
-        return left.cell.function < right.cell.function;
-    }
-    is_before(left.cell.objects.as_slice(), right.cell.objects.as_slice())
+    cell.function.cmp(&function).then_with(|| compare_objects(
+        cell.objects.as_slice(),
+        terms,
+        binding,
+    ))
 }
 
-// Whether the objects come before the others in lexicographic order.
-fn is_before(left: &[u16], right: &[u16]) -> bool
-    ensures { result ≡ numbers_before left.now right.now }
+// How objects stand to those that the terms stand for, in lexicographic order.
+fn compare_objects(objects: &[u16], terms: &[Term], binding: &[u16]) -> Ordering
+    ensures { result ≡ slice_cmp nat_cmp objects.now (objects_of binding.now terms.now) }
 {
-    for (at, object) in left.iter().enumerate() {
-        if at >= right.len() {
-            return false;
+    for (at, object) in objects.iter().enumerate() {
+        if at >= terms.len() {
+            return Ordering::Greater;
         }
-        if *object != right[at] {
-            return *object < right[at];
+        let order = object.cmp(&object_at(binding, terms[at]));
+        if order.is_ne() {
+            return order;
         }
     }
-    left.len() < right.len()
+    if objects.len() < terms.len() {
+        return Ordering::Less;
+    }
+    Ordering::Equal
 }

@@ -1,64 +1,59 @@
 ghost use Rattle.mf_eval.specs.Places.{IsAtomPlace, IsValuePlace};
-ghost use Rattle.mf_model.specs.States.{with_atom, with_value};
+ghost use Rattle.mf_meaning.specs.SortedStates.{IsSortedList};
+ghost use Rattle.mf_model.specs.States.{atom_before, cell_before, with_atom, with_value, without_atom};
 ghost use Rattle.std.specs.Prelude.{◌≡◌, OnOk};
 
 use crate::fault::Memory;
-use crate::order::{is_atom_before, is_cell_before, is_same_atom, is_same_cell};
 use mf_model::{Atom, Valued};
 
-/// A place in a sorted list.
-#[derive(Clone, Copy)]
-pub(crate) enum Place {
-    There(usize),
-    New(usize),
-}
-
-// Puts the atom into a sorted list, where it is not there already.
+// Puts the atom into sorted atoms, where it is not there already.
 pub(crate) fn put_atom(atoms: &mut Vec<Atom>, atom: Atom) -> Result<(), Memory>
-    ensures { OnOk result (atoms.new.items ≡ with_atom atoms.old.items atom) }
+    requires { IsSortedList atom_before atoms.old.items }
+    ensures atoms { OnOk result (atoms.new.items ≡ with_atom atoms.old.items atom) }
+    ensures sorted { OnOk result (IsSortedList atom_before atoms.new.items) }
 {
-    match place_of_atom(atoms.as_slice(), &atom) {
-        Place::There(_) => {}
-        Place::New(at) => atoms.insert(at, atom)?,
+    if let Err(at) = place_of_atom(atoms.as_slice(), &atom) {
+        atoms.insert(at, atom)?;
     }
     Ok(())
 }
 
-// Puts the value into a sorted list, in the place of an older value of its term.
+// Takes the atom out of sorted atoms, where it is there.
+pub(crate) fn take_atom(atoms: &mut Vec<Atom>, atom: &Atom)
+    requires { IsSortedList atom_before atoms.old.items }
+    ensures atoms { atoms.new.items ≡ without_atom atoms.old.items atom.now }
+    ensures sorted { IsSortedList atom_before atoms.new.items }
+{
+    if let Ok(at) = place_of_atom(atoms.as_slice(), atom) {
+        atoms.remove(at);
+    }
+}
+
+// Puts the value into sorted values, in the place of an older value of its term.
 pub(crate) fn put_value(values: &mut Vec<Valued>, valued: Valued) -> Result<(), Memory>
-    ensures { OnOk result (values.new.items ≡ with_value values.old.items valued) }
+    requires { IsSortedList cell_before values.old.items }
+    ensures values { OnOk result (values.new.items ≡ with_value values.old.items valued) }
+    ensures sorted { OnOk result (IsSortedList cell_before values.new.items) }
 {
     match place_of_value(values.as_slice(), &valued) {
-        Place::There(at) => values[at] = valued,
-        Place::New(at) => values.insert(at, valued)?,
+        Ok(at) => values[at] = valued,
+        Err(at) => values.insert(at, valued)?,
     }
     Ok(())
 }
 
-fn place_of_atom(atoms: &[Atom], atom: &Atom) -> Place
+// The place of the atom in sorted atoms, or else the place where it would go.
+fn place_of_atom(atoms: &[Atom], atom: &Atom) -> Result<usize, usize>
+    requires { IsSortedList atom_before atoms.now }
     ensures { IsAtomPlace atoms.now atom.now result }
 {
-    for (at, other) in atoms.iter().enumerate() {
-        if is_same_atom(atom, other) {
-            return Place::There(at);
-        }
-        if is_atom_before(atom, other) {
-            return Place::New(at);
-        }
-    }
-    Place::New(atoms.len())
+    atoms.binary_search(atom)
 }
 
-fn place_of_value(values: &[Valued], valued: &Valued) -> Place
+// The place of the value's term in sorted values, or else the place where it would go.
+fn place_of_value(values: &[Valued], valued: &Valued) -> Result<usize, usize>
+    requires { IsSortedList cell_before values.now }
     ensures { IsValuePlace values.now valued.now result }
 {
-    for (at, other) in values.iter().enumerate() {
-        if is_same_cell(&valued.cell, &other.cell) {
-            return Place::There(at);
-        }
-        if is_cell_before(valued, other) {
-            return Place::New(at);
-        }
-    }
-    Place::New(values.len())
+    values.binary_search_by(|other| other.cell.cmp(&valued.cell))
 }

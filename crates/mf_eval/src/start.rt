@@ -1,5 +1,6 @@
 ghost use Rattle.mf_model.specs.States.{start_of, with_atom, with_value};
 ghost use Rattle.mf_eval.specs.Entries.{as_valued};
+ghost use Rattle.mf_meaning.specs.SortedStates.{IsSortedState};
 ghost use Rattle.std.specs.List.{fold};
 ghost use Rattle.std.specs.Prelude.{◌≡◌, [], IfOk, map};
 
@@ -11,7 +12,8 @@ use std::collections::{BTreeMap, BTreeSet};
 
 /// The start of the task: its atoms and values, sorted and without repeats.
 pub fn start_state(alloc: Global, task: &TypedTask) -> Result<PlainState, Memory>
-    ensures { IfOk result (λ state. state ≡ start_of task.now) }
+    ensures start { IfOk result (λ state. state ≡ start_of task.now) }
+    ensures sorted { IfOk result (λ state. IsSortedState state) }
 {
     Ok(PlainState {
         atoms: List::from_vec(start_atoms(alloc, task.atoms.as_slice())?),

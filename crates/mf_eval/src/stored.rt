@@ -1,51 +1,46 @@
-ghost use Rattle.mf_model.specs.States.{is_atom, is_cell, value_at};
+ghost use Rattle.mf_meaning.specs.SortedStates.{IsSortedList};
+ghost use Rattle.mf_model.specs.States.{atom_before, cell_before, is_atom, value_at};
 ghost use Rattle.mf_model.specs.Views.{objects_of};
 ghost use Rattle.std.specs.List.{list_any};
 ghost use Rattle.std.specs.Prelude.{◌≡◌};
 
-use crate::binding::stand_for;
+use crate::order::{compare_atom, compare_cell};
 use mf_fraction::Frac;
-use mf_model::{Atom, Term, Valued};
+use mf_model::{Atom, Cell, Term, Valued};
 
-// Whether this is the value of the function at these terms.
-fn is_value_of(valued: &Valued, function: u16, terms: &[Term], binding: &[u16]) -> bool
-    ensures { result ≡ is_cell function (objects_of binding.now terms.now) valued.now }
-{
-    function == valued.cell.function && stand_for(binding, terms, valued.cell.objects.as_slice())
-}
-
-// The value that a state keeps of a ground function term, if it is defined.
+// The value that sorted values have of the function at these terms, if it is defined.
 pub(crate) fn value_of_term(
     values: &[Valued],
     function: u16,
     terms: &[Term],
     binding: &[u16],
 ) -> Option<Frac>
+    requires { IsSortedList cell_before values.now }
     ensures { result ≡ value_at values.now function (objects_of binding.now terms.now) }
 {
-    for valued in values {
-        if is_value_of(valued, function, terms, binding) {
-            return Some(valued.value);
-        }
+    match values.binary_search_by(|valued| compare_cell(&valued.cell, function, terms, binding)) {
+        Ok(at) => Some(values[at].value),
+        Err(_) => None,
     }
-    None
 }
 
-// Whether the atom of the predicate at these terms is true.
+// The value that sorted values have of a ground function term, if it is defined.
+pub(crate) fn value_of(values: &[Valued], cell: &Cell) -> Option<Frac>
+    requires { IsSortedList cell_before values.now }
+    ensures { result ≡ value_at values.now cell.now.function cell.now.objects }
+{
+    match values.binary_search_by(|valued| valued.cell.cmp(cell)) {
+        Ok(at) => Some(values[at].value),
+        Err(_) => None,
+    }
+}
+
+// Whether the atom of the predicate at these terms is among sorted atoms.
 pub(crate) fn is_true(atoms: &[Atom], predicate: u16, terms: &[Term], binding: &[u16]) -> bool
+    requires { IsSortedList atom_before atoms.now }
     ensures { result ≡ list_any (is_atom predicate (objects_of binding.now terms.now)) atoms.now }
 {
-    for atom in atoms {
-        if is_atom_of(atom, predicate, terms, binding) {
-            return true;
-        }
-    }
-    false
-}
-
-// Whether this is the atom of the predicate at these terms.
-fn is_atom_of(atom: &Atom, predicate: u16, terms: &[Term], binding: &[u16]) -> bool
-    ensures { result ≡ is_atom predicate (objects_of binding.now terms.now) atom.now }
-{
-    predicate == atom.predicate && stand_for(binding, terms, atom.objects.as_slice())
+    atoms
+        .binary_search_by(|atom| compare_atom(atom, predicate, terms, binding))
+        .is_ok()
 }

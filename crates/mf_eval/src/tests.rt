@@ -1,3 +1,4 @@
+ghost use Rattle.mf_meaning.specs.SortedStates.{IsSortedState};
 ghost use Rattle.mf_model.specs.VariableScopes.{action_scope_of, effect_scope_of, scope_of};
 ghost use Rattle.std.specs.Prelude.{◌≡◌, IfOk, [], ◌∷◌, Some};
 
@@ -133,7 +134,9 @@ fn task(alloc: Global) -> Result<TypedTask, Fail>
 }
 
 // The start of the task.
-fn first_state(alloc: Global) -> Result<PlainState, Fail> {
+fn first_state(alloc: Global) -> Result<PlainState, Fail>
+    ensures { IfOk result (λ state. IsSortedState state) }
+{
     let task = task(alloc)?;
     let start = start_state(alloc, &task);
     drop(task);
@@ -150,7 +153,8 @@ fn the_start_is_in_order(rt: HostRuntime) -> Result<(), Fail> {
 
 // The state after `go` from the first place to the second.
 fn after_go(alloc: Global, scene: &Scene<'_>) -> Result<PlainState, Fail>
-    requires { scene.now.task.now.objects ≡ [] }
+    requires objects { scene.now.task.now.objects ≡ [] }
+    requires sorted { IsSortedState scene.now.state.now }
 {
     let go = go(alloc)?;
     let next = apply_action(alloc, scene, &go, &[0, 1]);
@@ -161,7 +165,7 @@ fn after_go(alloc: Global, scene: &Scene<'_>) -> Result<PlainState, Fail>
 #[test]
 fn an_action_makes_a_state(rt: HostRuntime) -> Result<(), Fail> {
     let alloc = rt.alloc();
-    let state = state(alloc, 0, 2)?;
+    let state = first_state(alloc)?;
     let task = task(alloc)?;
     let scene = Scene {
         task: &task,
@@ -176,7 +180,7 @@ fn an_action_makes_a_state(rt: HostRuntime) -> Result<(), Fail> {
 #[test]
 fn the_fuel_is_read(rt: HostRuntime) -> Result<(), Fail> {
     let alloc = rt.alloc();
-    let state = state(alloc, 0, 2)?;
+    let state = first_state(alloc)?;
     let task = task(alloc)?;
     let left = value(&task, &fuel(alloc), &[], &state, 1);
     drop(task);
@@ -187,7 +191,7 @@ fn the_fuel_is_read(rt: HostRuntime) -> Result<(), Fail> {
 #[test]
 fn some_fuel_is_left(rt: HostRuntime) -> Result<(), Fail> {
     let alloc = rt.alloc();
-    let state = state(alloc, 0, 2)?;
+    let state = first_state(alloc)?;
     let task = task(alloc)?;
     let scene = Scene {
         task: &task,

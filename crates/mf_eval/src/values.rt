@@ -1,24 +1,28 @@
 ghost use Rattle.mf_eval.specs.Fired.{change_of, changes_in};
 ghost use Rattle.mf_eval.specs.Outcome.{Reads, ReadsItems};
 ghost use Rattle.mf_eval.specs.Results.{kept_change, kept_changes, kept_result};
-ghost use Rattle.std.specs.Prelude.{◌≡◌, IfOk};
+ghost use Rattle.mf_meaning.specs.SortedStates.{IsSortedList};
+ghost use Rattle.mf_model.specs.States.{cell_before};
+ghost use Rattle.std.specs.Prelude.{◌≡◌, IfOk, OnOk};
 
-use crate::changes::value_of;
 use crate::deed::Deed;
 use crate::fault::{ApplyFault, Memory};
 use crate::operation::{Operation, operate};
 use crate::sorted::put_value;
+use crate::stored::value_of;
 use mf_fraction::{Frac, Wide};
 use mf_model::{Op, Valued};
 use std::alloc::Global;
 
-// The old values under the changes, in their order.
+// The sorted old values under the changes, in their order.
 pub(crate) fn changed_values(
     alloc: Global,
     values: &[Valued],
     deeds: &[Deed],
 ) -> Result<Vec<Valued>, ApplyFault>
-    ensures { ReadsItems (λ changed. changed.items) (kept_changes values.now (changes_in deeds.now)) result }
+    requires { IsSortedList cell_before values.now }
+    ensures values { ReadsItems (λ changed. changed.items) (kept_changes values.now (changes_in deeds.now)) result }
+    ensures sorted { IfOk result (λ changed. IsSortedList cell_before changed.items) }
 {
     let mut changed = copy_values(alloc, values)?;
     change_values(alloc, &mut changed, deeds)?;
@@ -36,7 +40,9 @@ fn copy_values(alloc: Global, values: &[Valued]) -> Result<Vec<Valued>, Memory>
 }
 
 fn change_values(alloc: Global, values: &mut Vec<Valued>, deeds: &[Deed]) -> Result<(), ApplyFault>
-    ensures { Reads (kept_changes values.old.items (changes_in deeds.now)) result values.new.items }
+    requires { IsSortedList cell_before values.old.items }
+    ensures values { Reads (kept_changes values.old.items (changes_in deeds.now)) result values.new.items }
+    ensures sorted { OnOk result (IsSortedList cell_before values.new.items) }
 {
     for deed in deeds {
         change_value(alloc, values, deed)?;
@@ -45,7 +51,9 @@ fn change_values(alloc: Global, values: &mut Vec<Valued>, deeds: &[Deed]) -> Res
 }
 
 fn change_value(alloc: Global, values: &mut Vec<Valued>, deed: &Deed) -> Result<(), ApplyFault>
-    ensures { Reads (kept_change values.old.items (change_of deed.now)) result values.new.items }
+    requires { IsSortedList cell_before values.old.items }
+    ensures values { Reads (kept_change values.old.items (change_of deed.now)) result values.new.items }
+    ensures sorted { OnOk result (IsSortedList cell_before values.new.items) }
 {
     match deed {
         Deed::Added(_) => Ok(()),

@@ -1,5 +1,5 @@
 -- The verdict one step at a time.
-use Rattle.std.proofs.Common.{◌≡◌, sym, ◌∙◌, ap, subst, ℕ, suc, ◌+◌, ◌<◌, Bool, true, false, List, [], ◌∷◌, length, Option, Some, Result, Ok, Err, get_or, drop, drop-cons, add-one, if◌then◌else◌}
+use Rattle.std.proofs.Common.{◌≡◌, refl, sym, ◌∙◌, ap, subst, ℕ, suc, ◌+◌, ◌<◌, Bool, true, false, List, [], ◌∷◌, length, Option, Some, Result, Ok, Err, get_or, drop, drop-cons, add-one, if◌then◌else◌}
 use Rattle.mf_fraction.specs.Exact.{Number}
 use Rattle.mf_model.specs.declared.state.Instance.{Instance}
 use Rattle.mf_model.specs.declared.state.PlainState.{PlainState}
@@ -25,6 +25,12 @@ pub step-at : (task : TypedTask) (plan : List Instance) (i : ℕ) (state : Plain
 step-at task plan i state step within is =
     let steps : drop i plan ≡ step ∷ drop (i + 1) plan = rw (add-one) (drop-cons plan i step within ∙ ap (λ s. s ∷ drop (suc i) plan) (sym is)) in
     ap (λ steps. verdict_from task steps i state) steps
+
+-- a verdict is given by itself
+pub given_itself : (said : Result Verdict JudgeFault) → Gives said said
+given_itself (Ok said) = refl
+given_itself (Err (fault.Wide step)) = refl
+given_itself (Err fault.Memory) = tt
 
 -- a step that was applied
 pub step_done : (n : ℕ) (rest : PlainState → Result Verdict JudgeFault) (applied : Result PlainState ApplyFault) (next : PlainState) → applied ≡ Ok next → step_verdict n rest applied ≡ rest next

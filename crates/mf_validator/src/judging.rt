@@ -1,3 +1,4 @@
+ghost use Rattle.mf_meaning.specs.SortedStates.{IsSortedState};
 ghost use Rattle.mf_model.specs.ResolvedTask.{IsResolvedTask};
 ghost use Rattle.mf_eval.specs.declared.fault.Why.{Why};
 ghost use Rattle.mf_model.specs.Application.{instances_of};
@@ -65,6 +66,7 @@ fn refused(fault: ApplyFault, step: u32) -> Result<Verdict, JudgeFault>
 fn conclude(task: &TypedTask, state: &PlainState, steps: u32) -> Result<Verdict, JudgeFault>
     requires few { steps + 1 < 2 ^ 32 }
     requires resolved { IsResolvedTask task.now }
+    requires sorted { IsSortedState state.now }
     ensures { result ≡ end_verdict task.now steps state.now }
 {
     let Ok(truth) = holds(task, &task.goal, &[], state) else {
@@ -79,6 +81,7 @@ fn conclude(task: &TypedTask, state: &PlainState, steps: u32) -> Result<Verdict,
 // The verdict of a valid plan of so many steps.
 fn report(task: &TypedTask, state: &PlainState, steps: u32) -> Result<Verdict, JudgeFault>
     requires few { steps + 1 < 2 ^ 32 }
+    requires sorted { IsSortedState state.now }
     ensures { result ≡ valid_verdict task.now.metric steps state.now }
 {
     let Some(metric) = &task.metric else {

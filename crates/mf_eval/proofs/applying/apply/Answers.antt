@@ -14,11 +14,11 @@ apply_action-requires-clause-variables c =
     rw c.as_slice.ensures (subst (λ (action : Option Action). length instance.objects + action_scope_of action ≤ 64) (sym found)
     (binds_few task instance c.requires.resolved.limits.variables c.requires.step))
 
-pub returns : goal.returns
-returns c =
+pub returns-clause-outcome : goal.returns-clause-outcome
+returns-clause-outcome c =
     let task = c.args.task.now in
     let state = c.args.state.now in
     subst (λ outcome. Gives outcome c.apply_action.result)
     (ap (λ (objects : List ℕ). outcome_for task state objects (Some c.in-Some.action.now)) c.as_slice.ensures
     ∙ ap (λ (action : Option Action). outcome_for task state c.args.instance.now.objects action) (c.in-Some.ensures.value ∙ ap (slice_get task.actions) c.from.ensures))
-    c.apply_action.ensures
+    c.apply_action.ensures.outcome

@@ -12,10 +12,13 @@ judge_parts-judge-requires t c =
     let item = ap scope_of c.part-item.is in (
       search (rules, the_lemmas),
       (
-        c.requires.objects,
+        c.requires.sorted,
         (
-          omega (arith, within, item, ap (λ b. length b.items) c.loop-part.invariant.1, ap (λ b. b.capacity) c.loop-part.invariant.1, c.requires.room),
-          omega (arith, within, item, c.requires.few),
+          c.requires.objects,
+          (
+            omega (arith, within, item, ap (λ b. length b.items) c.loop-part.invariant.1, ap (λ b. b.capacity) c.loop-part.invariant.1, c.requires.room),
+            omega (arith, within, item, c.requires.few),
+          ),
         ),
       ),
     )

@@ -1,8 +1,0 @@
-use Rattle.std.proofs.Common.{◌≡◌, drop}
-use Rattle.mf_model.specs.States.{value_at}
-use Rattle.mf_model.specs.Views.{objects_of}
-use Rattle.mf_eval.proofs.stored.value_of_term.Given as goal
-
-abbrev pub invariant-loop-valued : goal.invariant-loop-valued
-invariant-loop-valued l =
-    value_at (drop l.valued-index l.values) l.function (objects_of l.binding l.terms) ≡ value_at l.values l.function (objects_of l.binding l.terms)
