@@ -50,7 +50,9 @@ rising-with_part (q ∷ qs) p rising = put (rising-with_part qs p rising.1) (nat
 pub rising_rest : (ps : List Part) (i : ℕ) (p : Part) → i < length ps → p ≡ get_or ps i p → IsRising ps → AllByRecursion (λ q. p.term < q.term) (drop (i + 1) ps)
 rising_rest [] i p h e rising = absurd (omega (arith, h))
 rising_rest (q ∷ ps) zero p h e rising = subst (λ (r : Part). AllByRecursion (λ s. r.term < s.term) ps) (sym e) rising.0
-rising_rest (q ∷ ps) (suc i) p h e rising = rising_rest ps i p (omega (arith, h)) e rising.1
+rising_rest (q ∷ ps) (suc i) p h e rising =
+    let next : suc (i + 1) ≡ suc i + 1 = omega arith in
+    subst (λ (n : ℕ). AllByRecursion (λ r. p.term < r.term) (drop n (q ∷ ps))) next (rising_rest ps i p (omega (arith, h)) e rising.1)
 
 all-scaled : (n : ℕ) (factor : Number) (ps : List Part) → AllByRecursion (λ q. n < q.term) ps → AllByRecursion (λ q. n < q.term) (map (scaled_part factor) ps)
 all-scaled n factor [] all = tt
@@ -122,15 +124,15 @@ not_here term q h = ap (λ b. b && not (part_fits q)) (apart term q.term h)
 wide_stays : (term : ℕ) (qs : List Part) (p : Part) → term < p.term → is_wide_at term qs ≡ true → is_wide_at term (with_part qs p) ≡ true
 unfolding here
 wide_stays term [] p h wide = cc
-wide_stays term (q ∷ qs) p h wide = put (nat_lt p.term q.term) (nat_eq p.term q.term) refl
+wide_stays term (q ∷ qs) p h wide = put (wide_stays term qs p h) (nat_lt p.term q.term) (nat_eq p.term q.term) refl
   where
-    put : (before equal : Bool) → nat_eq p.term q.term ≡ equal → is_wide_at term (cond before (p ∷ q ∷ qs) (cond equal (merged q p ∷ qs) (q ∷ with_part qs p))) ≡ true
-    put true equal e = or_adds (here term p) (here term q || is_wide_at term qs) wide
-    put false true e =
+    put : (is_wide_at term qs ≡ true → is_wide_at term (with_part qs p) ≡ true) → (before equal : Bool) → nat_eq p.term q.term ≡ equal → is_wide_at term (cond before (p ∷ q ∷ qs) (cond equal (merged q p ∷ qs) (q ∷ with_part qs p))) ≡ true
+    put stays true equal e = or_adds (here term p) (here term q || is_wide_at term qs) wide
+    put stays false true e =
         let later : term < q.term = omega (arith, h, same p.term q.term e) in
         ap (λ b. b || is_wide_at term qs) (not_here term (merged q p) later)
         ∙ sym (ap (λ b. b || is_wide_at term qs) (not_here term q later)) ∙ wide
-    put false false e = or_keeps (here term q) (is_wide_at term qs) (is_wide_at term (with_part qs p)) (wide_stays term qs p h) wide
+    put stays false false e = or_keeps (here term q) (is_wide_at term qs) (is_wide_at term (with_part qs p)) stays wide
 
 pub wide_stays_all : (term : ℕ) (qs ps : List Part) → AllByRecursion (λ p. term < p.term) ps → is_wide_at term qs ≡ true → is_wide_at term (with_parts qs ps) ≡ true
 wide_stays_all term qs [] later wide = wide

@@ -145,12 +145,29 @@ fn reciprocal(number: Frac) -> Option<Frac>
     ensures { result ≡ quotient_of (whole (pos 1)) number }
 {
     stored_laws(number);
-    let Ok(one) = Frac::whole(1) else {
-        unreachable!()
-    };
-    match div(one, number) {
+    match div(one(), number) {
         Ok(quotient) => Some(quotient),
         Err(DivFault::ZeroDivisor) => None,
         Err(DivFault::Wide) => unreachable!(),
     }
+}
+
+pub(crate) fn zero() -> Frac
+    ensures value { result ≡ whole (pos 0) }
+    ensures fits { fits result ≡ true }
+{
+    let Ok(zero) = Frac::whole(0) else {
+        unreachable!()
+    };
+    zero
+}
+
+pub(crate) fn one() -> Frac
+    ensures value { result ≡ whole (pos 1) }
+    ensures fits { fits result ≡ true }
+{
+    let Ok(one) = Frac::whole(1) else {
+        unreachable!()
+    };
+    one
 }

@@ -1,18 +1,18 @@
-ghost use Rattle.mf_normal.specs.FormsMade.{IsKept, Makes, MakesForm, join_of, unit_of};
+ghost use Rattle.mf_normal.specs.FormsMade.{IsKept, Makes, join_of, unit_of};
 ghost use Rattle.mf_normal.specs.Lookups.{functions_seen};
 ghost use Rattle.mf_task.specs.LinearForms.{constant_form, function_form, negative_forms, term_form};
 ghost use Rattle.mf_task.specs.WideForms.{formed, formed_of, joined_formed};
 ghost use Rattle.mf_model.specs.Views.{objects_of};
-ghost use Rattle.std.specs.Prelude.{◌≡◌, ◌<◌, ◌^◌, length, map, true, IfSome, Some};
+ghost use Rattle.std.specs.Prelude.{◌≡◌, ◌<◌, ◌^◌, length, map, true, IfOk, IfSome, Some};
 
-use crate::arithmetic::{Operation, join, opposite_form};
+use crate::arithmetic::{Operation, join, one, opposite_form, zero};
 use crate::fault::FormFault;
 use crate::lookup::{Lookup, number_of_term, start_value};
 use mf_fraction::Frac;
 use mf_fraction::laws::stored_laws;
 use mf_model::{Expr, List, Term};
 use mf_task::{Form, Part};
-use std::alloc::Global;
+use std::alloc::{AllocError, Global};
 
 /// The linear form of an expression under a binding: `None` exactly where the expression is undefined in every state.
 ///
@@ -69,7 +69,7 @@ fn fold(
         (map (λ part. part binding.now) (map (formed_of (functions_seen lookup.now)) parts.now))) result }
 {
     let Some((first, others)) = parts.split_first() else {
-        return empty(alloc, operation);
+        return Ok(Some(empty(alloc, operation)));
     };
     let mut front = form(alloc, lookup, first, binding)?;
     for part in others {
@@ -80,12 +80,13 @@ fn fold(
 }
 
 // The form of an operation without parts.
-fn empty(alloc: Global, operation: Operation) -> Result<Option<Form>, FormFault>
-    ensures { Makes (formed (Some (constant_form (unit_of operation))) true) result }
+fn empty(alloc: Global, operation: Operation) -> Form
+    ensures value { result ≡ constant_form (unit_of operation) }
+    ensures kept { IsKept result }
 {
     match operation {
-        Operation::Product => Ok(Some(constant(alloc, Frac::whole(1)?))),
-        _ => Ok(Some(constant(alloc, Frac::whole(0)?))),
+        Operation::Product => constant(alloc, one()),
+        _ => constant(alloc, zero()),
     }
 }
 
@@ -133,11 +134,12 @@ fn form_of_function(
 }
 
 // The form of one term, which is its value.
-fn term(alloc: Global, number: u32) -> Result<Form, FormFault>
-    ensures { MakesForm (term_form number) result }
+fn term(alloc: Global, number: u32) -> Result<Form, AllocError>
+    ensures value { IfOk result (λ form. form ≡ term_form number) }
+    ensures kept { IfOk result IsKept }
 {
-    let constant = Frac::whole(0)?;
-    let coefficient = Frac::whole(1)?;
+    let constant = zero();
+    let coefficient = one();
     let term = number;
     let mut parts = List::new(alloc);
     parts.push(Part { coefficient, term })?;

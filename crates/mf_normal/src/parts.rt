@@ -1,4 +1,5 @@
 ghost use Rattle.mf_normal.specs.FormParts.{IsPartPlace, IsRising, MakesList, MakesParts, PutsPart, are_narrow};
+ghost use Rattle.mf_normal.specs.declared.parts.PartPlace.TheVariants.{New, There};
 ghost use Rattle.mf_task.specs.LinearForms.{minus_one, scaled_part, with_parts};
 ghost use Rattle.std.specs.Prelude.{◌≡◌, map, true, IfOk};
 
@@ -25,29 +26,44 @@ pub(crate) fn add_parts(parts: &mut List<Part>, more: &[Part]) -> Result<(), For
     ensures { MakesParts (with_parts parts.old more.now) parts.new result }
 {
     for part in more {
-        add_part(parts, *part)?;
+        add_part(parts, part)?;
     }
     Ok(())
 }
 
 // Adds a part, its coefficient to that of its term where there is one.
-fn add_part(parts: &mut List<Part>, part: Part) -> Result<(), FormFault>
-    ensures { PutsPart part parts.old parts.new result }
+fn add_part(parts: &mut List<Part>, part: &Part) -> Result<(), FormFault>
+    ensures { PutsPart part.now parts.old parts.new result }
 {
     match place_of(parts.as_slice(), part) {
-        PartPlace::There(at) => {
-            let other = parts.as_slice()[at];
-            let coefficient = add(other.coefficient, part.coefficient)?;
-            let term = other.term;
-            parts.set(at, Part { coefficient, term });
-        }
-        PartPlace::New(at) => parts.insert(at, part)?,
+        PartPlace::There(at) => merge_part(parts, at, part),
+        PartPlace::New(at) => insert_part(parts, at, part),
     }
+}
+
+fn insert_part(parts: &mut List<Part>, at: usize, part: &Part) -> Result<(), FormFault>
+    requires { IsPartPlace parts.old part.now (New at) }
+    ensures { PutsPart part.now parts.old parts.new result }
+{
+    let coefficient = part.coefficient;
+    let term = part.term;
+    parts.insert(at, Part { coefficient, term })?;
     Ok(())
 }
 
-fn place_of(parts: &[Part], part: Part) -> PartPlace
-    ensures { IsPartPlace parts.now part result }
+fn merge_part(parts: &mut List<Part>, at: usize, part: &Part) -> Result<(), FormFault>
+    requires { IsPartPlace parts.old part.now (There at) }
+    ensures { PutsPart part.now parts.old parts.new result }
+{
+    let other = &parts.as_slice()[at];
+    let coefficient = add(other.coefficient, part.coefficient)?;
+    let term = other.term;
+    parts.set(at, Part { coefficient, term });
+    Ok(())
+}
+
+fn place_of(parts: &[Part], part: &Part) -> PartPlace
+    ensures { IsPartPlace parts.now part.now result }
 {
     for (at, other) in parts.iter().enumerate() {
         if part.term < other.term {
