@@ -1,13 +1,18 @@
 -- Lists of parts in term order: what putting in a part keeps, and that a coefficient that is too wide stays so.
-use Rattle.std.proofs.Common.{◌≡◌, ℕ, zero, suc, ◌+◌, ◌<◌, Bool, true, false, ◌&&◌, ◌||◌, not, cond, nat_eq, nat_lt, List, [], ◌∷◌, ◌++◌, length, map, get_or, take, drop, set, Result, Ok, Err, refl, sym, ap, ◌∙◌, subst, arith}
+use Rattle.std.proofs.Common.{◌≡◌, ℕ, zero, suc, ◌+◌, ◌<◌, ◌≤◌, Bool, true, false, ◌&&◌, ◌||◌, not, cond, nat_eq, nat_lt, List, [], ◌∷◌, ◌++◌, length, map, get_or, take, drop, set, Result, Ok, Err, refl, sym, ap, ◌∙◌, subst, arith}
 use Rattle.std.proofs.lemmas.Bool.Decides.{nat_tests}
-use Rattle.std.proofs.lemmas.List.{drop_more}
+use Rattle.std.proofs.lemmas.List.{drop_more, drop_all, get_or_read, map-append, take_all, take_more}
 use Rattle.std.specs.Cmp.{first_so, second_so}
 use Rattle.std.specs.List.{AllByRecursion, list_all, list_any}
+use Rattle.mf_fraction.specs.Checked.{checked}
 use Rattle.mf_fraction.specs.Exact.{Number, fits, product_of, sum_of}
+use Rattle.mf_fraction.specs.declared.faults.Wide.{Wide}
 use Rattle.mf_task.specs.declared.form.Part.{Part}
 use Rattle.mf_task.specs.LinearForms.{scaled_part, with_part, with_parts}
-use Rattle.mf_normal.specs.FormParts.{IsRising, are_narrow, is_wide_at, merged, part_fits}
+use Rattle.mf_normal.specs.FormParts.{IsRising, MakesParts, PutsPart, are_narrow, is_wide_at, merged, part_fits}
+use Rattle.mf_normal.specs.declared.fault.FormFault.{FormFault}
+use Rattle.mf_normal.specs.declared.fault.FormFault.TheVariants as fault
+use Rattle.mf_normal.proofs.Numbers.{answered_ok, checked_err}
 
 below : (n m : ℕ) → nat_lt n m ≡ true → n < m
 below n m e = grind (arith, nat_tests)
@@ -166,3 +171,87 @@ with_parts_next qs ps i p h e =
 pub scaled_next : (factor : Number) (ps : List Part) (i : ℕ) (p : Part) → i < length ps → p ≡ get_or ps i p → are_narrow (map (scaled_part factor) (drop i ps)) ≡ (fits (product_of factor p.coefficient) && are_narrow (map (scaled_part factor) (drop (i + 1) ps)))
 scaled_next factor ps i p h e =
     ap (λ (rest : List Part). are_narrow (map (scaled_part factor) rest)) (drop_more ps i p h ∙ ap (λ (x : Part). x ∷ drop (i + 1) ps) (sym e))
+
+-- what the code makes
+
+abbrev part : Number → ℕ → Part
+part coefficient term = record { coefficient = coefficient; term = term }
+
+abbrev IsPut : Part → List Part → List Part → Type 0
+IsPut p old new = (new ≡ with_part old p) × (part_fits p ≡ true → are_narrow old ≡ true → are_narrow new ≡ true)
+
+pub inserted : (old new : List Part) (at : ℕ) (p : Part) → with_part old p ≡ take at old ++ p ∷ drop at old → new ≡ take at old ++ p ∷ drop at old → IsPut p old new
+inserted old new at p w n = (n ∙ sym w, λ fit narrow. ap are_narrow n ∙ narrow-insert old at p fit narrow)
+
+pub merged_in : (old new : List Part) (at : ℕ) (q p : Part) (c : Number) (r : Result Number Wide) → at < length old → q ≡ get_or old at q → with_part old p ≡ set old at (merged (get_or old at p) p) → r ≡ checked (sum_of q.coefficient p.coefficient) → r ≡ Ok c → new ≡ set old at (part c q.term) → IsPut p old new
+merged_in old new at q p c r h e w f g n =
+    let k = answered_ok (sum_of q.coefficient p.coefficient) c r f g in
+    let same : part c q.term ≡ merged (get_or old at p) p = ap (λ (x : Number). part x q.term) k.0 ∙ ap (λ (x : Part). merged x p) (get_or_read old at q h e p) in
+    (n ∙ ap (λ (x : Part). set old at x) same ∙ sym w, λ fit narrow. ap are_narrow n ∙ narrow-set old at (part c q.term) k.1 narrow)
+
+pub merged_wide : (old : List Part) (at : ℕ) (q p : Part) (w : Wide) (r : Result Number Wide) → at < length old → q ≡ get_or old at q → (get_or old at p).term ≡ p.term → with_part old p ≡ set old at (merged (get_or old at p) p) → r ≡ checked (sum_of q.coefficient p.coefficient) → r ≡ Err w → is_wide_at p.term (with_part old p) ≡ true
+merged_wide old at q p w r h e t put f g =
+    let wide : part_fits (merged (get_or old at p) p) ≡ false = sym (ap (λ (x : Part). part_fits (merged x p)) (get_or_read old at q h e p)) ∙ checked_err (sum_of q.coefficient p.coefficient) w (sym f ∙ g) in
+    ap (is_wide_at p.term) put ∙ wide-set old at (merged (get_or old at p) p) p.term h t wide
+
+module _ (start old more : List Part) (i : ℕ) (p : Part) (h : i < length more) (e : p ≡ get_or more i p) (rest : with_parts old (drop i more) ≡ with_parts start more) where
+  next : with_parts (with_part old p) (drop (i + 1) more) ≡ with_parts start more
+  next = sym (with_parts_next old more i p h e) ∙ rest
+
+  pub added_next : (new : List Part) → IsRising old → are_narrow old ≡ true → are_narrow more ≡ true → IsPut p old new → (with_parts new (drop (i + 1) more) ≡ with_parts start more) × IsRising new × (are_narrow new ≡ true)
+  added_next new rising narrow fit put = (
+    ap (λ (x : List Part). with_parts x (drop (i + 1) more)) put.0 ∙ next,
+    subst IsRising (sym put.0) (rising-with_part old p rising),
+    put.1 (narrow_at more i p h e fit) narrow,
+  )
+
+  pub added_wide : IsRising more → is_wide_at p.term (with_part old p) ≡ true → are_narrow (with_parts start more) ≡ false
+  added_wide rising wide =
+      not_narrow p.term (with_parts start more) (subst (λ (l : List Part). is_wide_at p.term l ≡ true) next (wide_stays_all p.term (with_part old p) (drop (i + 1) more) (rising_rest more i p h e rising) wide))
+
+abbrev scaled : Number → List Part → List Part
+scaled factor ps = map (scaled_part factor) ps
+
+module _ (factor : Number) (ps : List Part) (i : ℕ) where
+  pub scaled_wide : (p : Part) (w : Wide) (r : Result Number Wide) → i < length ps → p ≡ get_or ps i p → are_narrow (scaled factor (drop i ps)) ≡ are_narrow (scaled factor ps) → r ≡ checked (product_of factor p.coefficient) → r ≡ Err w → are_narrow (scaled factor ps) ≡ false
+  scaled_wide p w r h e rest f g =
+      sym rest ∙ scaled_next factor ps i p h e
+      ∙ ap (λ b. b && are_narrow (scaled factor (drop (i + 1) ps))) (checked_err (product_of factor p.coefficient) w (sym f ∙ g))
+
+  pub scaled_more : (p : Part) (c : Number) (r : Result Number Wide) (qs : List Part) → i < length ps → p ≡ get_or ps i p → qs ≡ scaled factor (take i ps) → are_narrow (scaled factor (drop i ps)) ≡ are_narrow (scaled factor ps) → r ≡ checked (product_of factor p.coefficient) → r ≡ Ok c → (qs ++ part c p.term ∷ [] ≡ scaled factor (take (i + 1) ps)) × (are_narrow (scaled factor (drop (i + 1) ps)) ≡ are_narrow (scaled factor ps))
+  scaled_more p c r qs h e front rest f g =
+      let k = answered_ok (product_of factor p.coefficient) c r f g in
+      (
+        ap (λ (l : List Part). l ++ part c p.term ∷ []) front
+        ∙ ap (λ (x : Number). scaled factor (take i ps) ++ part x p.term ∷ []) k.0
+        ∙ ap (λ (x : Part). scaled factor (take i ps) ++ scaled_part factor x ∷ []) e
+        ∙ sym (map-append (take i ps) (get_or ps i p ∷ []) (scaled_part factor))
+        ∙ sym (ap (scaled factor) (take_more ps i p h)),
+        sym (ap (λ b. b && are_narrow (scaled factor (drop (i + 1) ps))) (sym (ap fits k.0) ∙ k.1)) ∙ sym (scaled_next factor ps i p h e) ∙ rest,
+      )
+
+  pub scaled_end : (qs : List Part) → length ps ≤ i → qs ≡ scaled factor (take i ps) → are_narrow (scaled factor (drop i ps)) ≡ are_narrow (scaled factor ps) → IsRising ps → (qs ≡ scaled factor ps) × IsRising (scaled factor ps) × (are_narrow (scaled factor ps) ≡ true)
+  scaled_end qs h front rest rising = (
+    front ∙ ap (scaled factor) (take_all i ps h),
+    rising-scaled factor ps rising,
+    sym rest ∙ ap (λ (l : List Part). are_narrow (scaled factor l)) (drop_all i ps h),
+  )
+
+  pub rising_end : (qs : List Part) → length ps ≤ i → qs ≡ scaled factor (take i ps) → IsRising ps → IsRising qs
+  rising_end qs h front rising = subst IsRising (sym (front ∙ ap (scaled factor) (take_all i ps h))) (rising-scaled factor ps rising)
+
+-- where the code finds a part of the same term
+pub placed_there : (ps : List Part) (i : ℕ) (q p : Part) → i < length ps → q ≡ get_or ps i q → q.term ≤ p.term → p.term ≡ q.term → with_part ps p ≡ take i ps ++ with_part (drop i ps) p → (i < length ps) × ((get_or ps i p).term ≡ p.term) × (with_part ps p ≡ set ps i (merged (get_or ps i p) p))
+placed_there ps i q p h e least s front =
+    let before : nat_lt p.term q.term ≡ false = grind (arith, nat_tests, least) in
+    let equal : nat_eq p.term q.term ≡ true = grind (arith, nat_tests, s) in
+    let read : q ≡ get_or ps i p = get_or_read ps i q h e p in
+    (
+      h,
+      sym (ap (λ (x : Part). x.term) read) ∙ sym s,
+      front ∙ with_part-there ps i q p h e before equal ∙ ap (λ (x : Part). set ps i (merged x p)) read,
+    )
+
+pub add_fails : (start old more : List Part) (i : ℕ) (p : Part) → i < length more → p ≡ get_or more i p → with_parts old (drop i more) ≡ with_parts start more → (new : List Part) (why : FormFault) → IsRising more → PutsPart p old new (Err why) → MakesParts (with_parts start more) new (Err why)
+add_fails start old more i p h e rest new fault.Wide rising wide = added_wide start old more i p h e rest rising wide
+add_fails start old more i p h e rest new fault.Memory rising wide = tt

@@ -27,6 +27,10 @@ Makes formed (Ok form) = (formed ≡ record { form = form; fits = true }) × IfS
 Makes formed (Err Wide) = formed.fits ≡ false
 Makes formed (Err Memory) = Unit {0}
 
+abbrev pub as_defined : Result Form FormFault → Result (Option Form) FormFault
+as_defined (Ok form) = Ok (Some form)
+as_defined (Err fault) = Err fault
+
 abbrev pub joined_by : Operation → Form → Form → Option Form
 joined_by Sum a b = Some (sum_form a b)
 joined_by Difference a b = Some (difference_form a b)

@@ -1,5 +1,5 @@
 ghost use Rattle.mf_fraction.specs.Exact.{fits, product_of, quotient_of, whole};
-ghost use Rattle.mf_normal.specs.FormsMade.{IsKept, Makes, MakesForm, join_of, joined_by};
+ghost use Rattle.mf_normal.specs.FormsMade.{IsKept, Makes, MakesForm, as_defined, join_of, joined_by};
 ghost use Rattle.mf_task.specs.LinearForms.{difference_form, minus_one, negative_form, product_form, quotient_form, scaled_form, sum_form};
 ghost use Rattle.mf_task.specs.WideForms.{formed};
 ghost use Rattle.std.specs.Prelude.{◌≡◌, pos, true, IfOk, IfSome, Some};
@@ -56,7 +56,9 @@ fn join_forms(
 }
 
 // A defined form.
-fn some(form: Result<Form, FormFault>) -> Result<Option<Form>, FormFault> {
+fn some(form: Result<Form, FormFault>) -> Result<Option<Form>, FormFault>
+    ensures { result ≡ as_defined form }
+{
     Ok(Some(form?))
 }
 
