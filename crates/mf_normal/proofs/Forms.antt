@@ -1,8 +1,8 @@
 -- Forms of expressions: a part that is too wide makes the whole so.
-use Rattle.std.proofs.Common.{◌≡◌, ℕ, ◌+◌, ◌<◌, pos, Bool, true, false, ◌&&◌, List, [], ◌∷◌, length, map, get_or, drop, Option, Some, None, IfSome, Result, Ok, Err, refl, sym, ap, ◌∙◌, subst, rules}
+use Rattle.std.proofs.Common.{◌≡◌, ℕ, ◌+◌, ◌<◌, pos, Bool, true, false, ◌&&◌, List, [], ◌∷◌, length, map, get_or, drop, Option, Some, IfSome, Result, Ok, Err, refl, sym, ap, ◌∙◌, subst, rules}
 use Rattle.std.proofs.lemmas.List.{drop_more}
 use Rattle.mf_fraction.specs.Checked.{checked}
-use Rattle.mf_fraction.specs.Exact.{Number, fits, product_of, quotient_of, sum_of, whole}
+use Rattle.mf_fraction.specs.Exact.{Number, fits, quotient_of, whole}
 use Rattle.mf_fraction.specs.declared.faults.Wide.{Wide}
 use Rattle.mf_model.specs.declared.task.Expr.{Expr, the_lemmas}
 use Rattle.mf_model.specs.declared.task.Expr.TheVariants as expr
@@ -10,7 +10,7 @@ use Rattle.mf_model.specs.declared.task.Term.{Term}
 use Rattle.mf_model.specs.Views.{objects_of}
 use Rattle.mf_task.specs.declared.form.Form.{Form}
 use Rattle.mf_task.specs.declared.form.Part.{Part}
-use Rattle.mf_task.specs.LinearForms.{Functions, difference_form, function_form, product_by, product_form, product_forms, quotient_form, quotient_over, scaled_by, scaled_form, sum_form, sum_forms, with_parts}
+use Rattle.mf_task.specs.LinearForms.{Functions, difference_form, function_form, product_by, product_form, quotient_form, quotient_over, scaled_by, scaled_form, sum_form}
 use Rattle.mf_task.specs.WideForms.{Formed, both_formed, combined_formed, form_fits, formed, formed_of, joined_formed}
 use Rattle.mf_normal.specs.declared.arithmetic.Operation.{Operation}
 use Rattle.mf_normal.specs.declared.arithmetic.Operation.TheVariants.{Sum, Difference, Product}
@@ -88,14 +88,18 @@ module _ (join : Option Form → Option Form → Option Form) where
 abbrev form : Number → List Part → Form
 form constant parts = record { constant = constant; parts = parts }
 
-pub form_made : (k l : Number) (ps qs : List Part) (r : Result Number Wide) → r ≡ checked l → r ≡ Ok k → ps ≡ qs → IsRising qs → are_narrow qs ≡ true → (form k ps ≡ form l qs) × IsKept (form l qs)
+form_made : (k l : Number) (ps qs : List Part) (r : Result Number Wide) → r ≡ checked l → r ≡ Ok k → ps ≡ qs → IsRising qs → are_narrow qs ≡ true → (form k ps ≡ form l qs) × IsKept (form l qs)
 form_made k l ps qs r f g e rising narrow =
     let n = answered_ok l k r f g in
-    let fit : fits l ≡ true = sym (ap fits n.0) ∙ n.1 in
-    (
+    let fit : fits l ≡ true = sym (ap fits n.0) ∙ n.1 in (
       ap (λ (x : Number). form x ps) n.0 ∙ ap (λ (x : List Part). form l x) e,
       record { rising = rising; narrow = ap (λ b. b && are_narrow qs) fit ∙ narrow },
     )
+
+pub form_made_of : (f : List Part → List Part) (k l : Number) (ps qs rs : List Part) (r : Result Number Wide) → r ≡ checked l → r ≡ Ok k → rs ≡ qs → (ps ≡ f rs) × IsRising (f rs) × (are_narrow (f rs) ≡ true) → (form k ps ≡ form l (f qs)) × IsKept (form l (f qs))
+form_made_of f k l ps qs rs r g h e made =
+    let m = subst (λ (x : List Part). (ps ≡ f x) × IsRising (f x) × (are_narrow (f x) ≡ true)) e made in
+    form_made k l ps (f qs) r g h m.0 m.1 m.2
 
 pub constant_wide : (l : Number) (qs : List Part) (w : Wide) (r : Result Number Wide) → r ≡ checked l → r ≡ Err w → form_fits (form l qs) ≡ false
 constant_wide l qs w r f g = ap (λ b. b && are_narrow qs) (checked_err l w (sym f ∙ g))
@@ -105,6 +109,9 @@ pub makes_defined : (a : Form) (o : Option Form) (r : Result Form FormFault) (s 
 makes_defined a o r s e made f =
     subst (λ (x : Option Form). Makes (formed x true) s) (sym e) (subst (λ (x : Result (Option Form) FormFault). Makes (formed (Some a) true) x) (sym f) (at r made))
   where
+    formed_as : Option Form → Bool → Formed
+    formed_as x fit = record { form = x; fits = fit }
+
     at : (q : Result Form FormFault) → MakesForm a q → Makes (formed (Some a) true) (as_defined q)
     at (Ok b) m = (
       ap (λ (x : Bool). formed_as (Some a) x) m.1.narrow ∙ ap (λ (x : Form). formed_as (Some x) true) (sym m.0),
@@ -113,17 +120,14 @@ makes_defined a o r s e made f =
     at (Err fault.Wide) m = m
     at (Err fault.Memory) m = tt
 
-    formed_as : Option Form → Bool → Formed
-    formed_as x fit = record { form = x; fits = fit }
-
 pub product_right : (a b : Form) → b.parts ≡ [] → product_form a b ≡ Some (scaled_form b.constant a)
 product_right a b e = ap (λ (l : List Part). product_by a b a.parts l) e
 
-pub product_left : (a b : Form) → a.parts ≡ [] → (b.parts ≡ [] → ⊥) → product_form a b ≡ Some (scaled_form a.constant b)
+pub product_left : (a b : Form) → a.parts ≡ [] → (b.parts ≡ [] → false ≡ true) → product_form a b ≡ Some (scaled_form a.constant b)
 product_left a b e some = ap (λ (l : List Part). product_by a b l b.parts) e ∙ at b.parts some
   where
-    at : (qs : List Part) → (qs ≡ [] → ⊥) → product_by a b [] qs ≡ Some (scaled_form a.constant b)
-    at [] none = absurd (none refl)
+    at : (qs : List Part) → (qs ≡ [] → false ≡ true) → product_by a b [] qs ≡ Some (scaled_form a.constant b)
+    at [] none = let no : false ≡ true = none refl in cc
     at (q ∷ qs) none = refl
 
 pub quotient_some : (a b : Form) (q : Number) (o : Option Number) → b.parts ≡ [] → o ≡ quotient_of (whole (pos 1)) b.constant → o ≡ Some q → quotient_form a b ≡ Some (scaled_form q a)

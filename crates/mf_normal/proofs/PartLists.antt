@@ -3,7 +3,7 @@ use Rattle.std.proofs.Common.{◌≡◌, ℕ, zero, suc, ◌+◌, ◌<◌, ◌�
 use Rattle.std.proofs.lemmas.Bool.Decides.{nat_tests}
 use Rattle.std.proofs.lemmas.List.{drop_more, drop_all, get_or_read, map-append, take_all, take_more}
 use Rattle.std.specs.Cmp.{first_so, second_so}
-use Rattle.std.specs.List.{AllByRecursion, list_all, list_any}
+use Rattle.std.specs.List.{AllByRecursion}
 use Rattle.mf_fraction.specs.Checked.{checked}
 use Rattle.mf_fraction.specs.Exact.{Number, fits, product_of, sum_of}
 use Rattle.mf_fraction.specs.declared.faults.Wide.{Wide}
@@ -220,13 +220,12 @@ module _ (factor : Number) (ps : List Part) (i : ℕ) where
 
   pub scaled_more : (p : Part) (c : Number) (r : Result Number Wide) (qs : List Part) → i < length ps → p ≡ get_or ps i p → qs ≡ scaled factor (take i ps) → are_narrow (scaled factor (drop i ps)) ≡ are_narrow (scaled factor ps) → r ≡ checked (product_of factor p.coefficient) → r ≡ Ok c → (qs ++ part c p.term ∷ [] ≡ scaled factor (take (i + 1) ps)) × (are_narrow (scaled factor (drop (i + 1) ps)) ≡ are_narrow (scaled factor ps))
   scaled_more p c r qs h e front rest f g =
-      let k = answered_ok (product_of factor p.coefficient) c r f g in
-      (
+      let k = answered_ok (product_of factor p.coefficient) c r f g in (
         ap (λ (l : List Part). l ++ part c p.term ∷ []) front
-        ∙ ap (λ (x : Number). scaled factor (take i ps) ++ part x p.term ∷ []) k.0
-        ∙ ap (λ (x : Part). scaled factor (take i ps) ++ scaled_part factor x ∷ []) e
-        ∙ sym (map-append (take i ps) (get_or ps i p ∷ []) (scaled_part factor))
-        ∙ sym (ap (scaled factor) (take_more ps i p h)),
+            ∙ ap (λ (x : Number). scaled factor (take i ps) ++ part x p.term ∷ []) k.0
+            ∙ ap (λ (x : Part). scaled factor (take i ps) ++ scaled_part factor x ∷ []) e
+            ∙ sym (map-append (scaled_part factor) (take i ps) (get_or ps i p ∷ []))
+            ∙ sym (ap (λ (l : List Part). scaled factor l) (take_more ps i p h)),
         sym (ap (λ b. b && are_narrow (scaled factor (drop (i + 1) ps))) (sym (ap fits k.0) ∙ k.1)) ∙ sym (scaled_next factor ps i p h e) ∙ rest,
       )
 
@@ -245,13 +244,12 @@ pub placed_there : (ps : List Part) (i : ℕ) (q p : Part) → i < length ps →
 placed_there ps i q p h e least s front =
     let before : nat_lt p.term q.term ≡ false = grind (arith, nat_tests, least) in
     let equal : nat_eq p.term q.term ≡ true = grind (arith, nat_tests, s) in
-    let read : q ≡ get_or ps i p = get_or_read ps i q h e p in
-    (
+    let read : q ≡ get_or ps i p = get_or_read ps i q h e p in (
       h,
       sym (ap (λ (x : Part). x.term) read) ∙ sym s,
       front ∙ with_part-there ps i q p h e before equal ∙ ap (λ (x : Part). set ps i (merged x p)) read,
     )
 
-pub add_fails : (start old more : List Part) (i : ℕ) (p : Part) → i < length more → p ≡ get_or more i p → with_parts old (drop i more) ≡ with_parts start more → (new : List Part) (why : FormFault) → IsRising more → PutsPart p old new (Err why) → MakesParts (with_parts start more) new (Err why)
+pub add_fails : (start old more : List Part) (i : ℕ) (p : Part) → i < length more → p ≡ get_or more i p → with_parts old (drop i more) ≡ with_parts start more → (new : List Part) (why : FormFault) → IsRising more → PutsPart p old new (Err why) → MakesParts {A = Unit {0}} (with_parts start more) new (Err why)
 add_fails start old more i p h e rest new fault.Wide rising wide = added_wide start old more i p h e rest rising wide
 add_fails start old more i p h e rest new fault.Memory rising wide = tt

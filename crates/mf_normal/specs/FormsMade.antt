@@ -1,5 +1,5 @@
 -- What the code answers of a form: the form, where it and those of all subexpressions fit.
-use Rattle.std.specs.Prelude.{◌≡◌, pos, true, false, Option, Some, None, IfSome, Result, Ok, Err}
+use Rattle.std.specs.Prelude.{◌≡◌, pos, true, false, Option, Some, IfSome, Result, Ok, Err}
 use Rattle.mf_fraction.specs.Exact.{Number, whole}
 use Rattle.mf_task.specs.declared.form.Form.{Form}
 use Rattle.mf_task.specs.LinearForms.{difference_form, product_form, quotient_form, sum_form, with_forms}

@@ -1,5 +1,4 @@
-//! The packed task of a typed task and its live instances: linear forms, ground conditions and primitive effects over
-//! numbered atoms and terms.
+//! The linear forms of a task's expressions, over checked numbers: the first part of the way to the packed task.
 #![tactic(auto)]
 
 mod arithmetic;

@@ -1,7 +1,6 @@
 ghost use Rattle.mf_model.specs.Objects.{member};
 ghost use Rattle.mf_model.specs.States.{is_cell, value_at};
 ghost use Rattle.mf_model.specs.Views.{objects_of};
-ghost use Rattle.mf_normal.specs.Lookups.{functions_seen};
 ghost use Rattle.mf_task.specs.Grounding.{is_same_cell, term_number};
 ghost use Rattle.std.specs.Prelude.{◌≡◌, ◌<◌, ◌^◌, length, not};
 

@@ -1,7 +1,7 @@
 use Rattle.std.proofs.lemmas.Result.{err_from_is_err_and}
 use Rattle.mf_fraction.specs.Exact.{sum_of}
 use Rattle.mf_task.specs.LinearForms.{with_parts}
-use Rattle.mf_normal.proofs.Forms.{constant_wide, form_made}
+use Rattle.mf_normal.proofs.Forms.{constant_wide, form_made_of}
 use Rattle.mf_normal.proofs.arithmetic.sum.Goals as goal
 
 pub returns-in_err-constant : goal.returns-in_err-constant
@@ -11,4 +11,4 @@ returns-in_err-constant c =
 
 pub returns : goal.returns
 returns c =
-    form_made c.in_ok-constant.constant (sum_of c.args.left.constant c.args.right.now.constant) c.add_parts.new.parts (with_parts c.args.left.parts c.args.right.now.parts) c.add.result c.add.ensures c.in_ok-constant.was c.in_ok-add_parts.ensures.0 c.in_ok-add_parts.ensures.1 c.in_ok-add_parts.ensures.2
+    form_made_of (with_parts c.args.left.parts) c.in_ok-constant.constant (sum_of c.args.left.constant c.args.right.now.constant) c.add_parts.new.parts c.args.right.now.parts c.as_slice.result.now c.add.result c.add.ensures c.in_ok-constant.was c.as_slice.ensures c.in_ok-add_parts.ensures

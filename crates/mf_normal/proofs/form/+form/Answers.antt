@@ -7,7 +7,7 @@ use Rattle.mf_normal.proofs.form.+form.Goals as goal
 pub fold-returns-in_err-front : goal.fold-returns-in_err-front
 fold-returns-in_err-front t c =
     let p = err_from_is_err_and c.from_residual.result c.from_residual.ensures.1 in
-    rw (p.1, p.2) (first_fails (join_of c.args.operation) (functions_seen c.args.lookup.now) c.args.binding.now (unit_of c.args.operation) c.in-Some.first.now c.in-Some.others.now c.args.parts.now _ c.in-Some.ensures.cases c.in_err-front.ensures)
+    rw (p.1, p.2) (first_fails (join_of c.args.operation) (functions_seen c.args.lookup.now) c.args.binding.now (unit_of c.args.operation) c.in-Some.first.now c.in-Some.others.now c.args.parts.now _ c.in-Some.ensures.cases.0 c.in_err-front.ensures)
 
 pub fold-returns-in_err-next : goal.fold-returns-in_err-next
 fold-returns-in_err-next t c =

@@ -1,4 +1,3 @@
-use Rattle.std.proofs.Common.{refl}
 use Rattle.std.proofs.lemmas.Result.{err_from_is_err_and}
 use Rattle.mf_normal.proofs.PartLists.{add_fails, added_next}
 use Rattle.mf_normal.proofs.parts.add_parts.Goals as goal

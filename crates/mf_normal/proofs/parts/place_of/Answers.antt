@@ -1,8 +1,4 @@
-use Rattle.std.proofs.Common.{◌≡◌, true, false, nat_eq, nat_lt, ap, sym, ◌∙◌, arith}
-use Rattle.std.proofs.lemmas.Bool.Decides.{nat_tests}
-use Rattle.std.proofs.lemmas.List.{get_or_read}
-use Rattle.mf_task.specs.declared.form.Part.{Part}
-use Rattle.mf_normal.specs.FormParts.{merged}
+use Rattle.std.proofs.Common.{true, false}
 use Rattle.mf_normal.proofs.PartLists.{placed_there}
 use Rattle.mf_normal.proofs.parts.place_of.Goals as goal
 
