@@ -1,12 +1,12 @@
 ghost use Rattle.mf_task.specs.NumberedTasks.{is_numbered, is_numbered_action};
 ghost use Rattle.mf_task.specs.declared.task.Task.{Task};
-ghost use Rattle.std.specs.Prelude.{◌≡◌, ◌∷◌, [], length, true};
+ghost use Rattle.std.specs.Prelude.{◌≡◌, ◌<◌, ◌∷◌, [], length, true};
 
 use crate::dead;
 use mf_fraction::Frac;
 use mf_model::{Atom, Cell, Instance, List, Op, Relation};
 use mf_task::{Form, GroundAction, GroundChange, GroundCond, GroundEffect, Part, Row, Task};
-use sqlite_items::Items;
+use sqlite_items::{Boxed, Items};
 use std::alloc::Global;
 use std::process::Abort;
 use std::test::Fail;
@@ -194,5 +194,121 @@ fn one_part_of_an_or_is_enough(rt: HostRuntime) -> Result<(), Fail> {
     let goal = either(&rt, alloc, atom, compare(Relation::AtLeast, OVER_TEN));
     let task = task(&rt, alloc, count, goal);
     assert!(rt; !is_dead_at(&rt, &task, 0, 1));
+    Ok(())
+}
+
+fn always_undefined(rt: &impl Abort, alloc: Global) -> GroundCond {
+    match Boxed::new(alloc, GroundCond::Neither) {
+        Ok(part) => GroundCond::Not { part },
+        Err(_) => panic!(rt; "no memory"),
+    }
+}
+
+#[test]
+fn an_undefined_distance_is_a_dead_end(rt: HostRuntime) -> Result<(), Fail> {
+    let alloc = rt.alloc();
+    let never = always_undefined(&rt, alloc);
+    let drive = action(&rt, alloc, never, Op::Increase);
+    let task = task(&rt, alloc, drive, compare(Relation::AtLeast, OVER_TEN));
+    assert!(rt; is_dead_at(&rt, &task, 0, 1));
+    Ok(())
+}
+
+#[test]
+fn a_distance_that_is_too_long_is_a_dead_end(rt: HostRuntime) -> Result<(), Fail> {
+    let alloc = rt.alloc();
+    let never = GroundCond::Fact { holds: false };
+    let drive = action(&rt, alloc, never, Op::Increase);
+    let task = task(&rt, alloc, drive, compare(Relation::AtLeast, OVER_TEN));
+    assert!(rt; is_dead_at(&rt, &task, 0, 1));
+    Ok(())
+}
+
+// An instance that leads from one of three places to another.
+fn go(rt: &impl Abort, alloc: Global, from: u32, to: u32) -> GroundAction
+    requires { (from < 3) × (to < 3) }
+    ensures { (task : Task) → length task.atoms ≡ 3 → is_numbered_action task result ≡ true }
+{
+    let leave = GroundEffect {
+        condition: GroundCond::Fact { holds: true },
+        change: GroundChange::Delete { atom: from },
+    };
+    let arrive = GroundEffect {
+        condition: GroundCond::Fact { holds: true },
+        change: GroundChange::Add { atom: to },
+    };
+    GroundAction {
+        instance: Instance {
+            action: 0,
+            objects: List::new(alloc),
+        },
+        condition: GroundCond::Atom { atom: from },
+        effects: pair(rt, alloc, leave, arrive),
+    }
+}
+
+fn pair<T: Drop>(rt: &impl Abort, alloc: Global, first: T, second: T) -> List<T>
+    ensures { result ≡ first ∷ second ∷ [] }
+{
+    let mut list = one(rt, alloc, first);
+    match list.push(second) {
+        Ok(()) => list,
+        Err(_) => panic!(rt; "no memory"),
+    }
+}
+
+fn place(alloc: Global, number: u16) -> Atom {
+    Atom {
+        predicate: number,
+        objects: List::new(alloc),
+    }
+}
+
+// A ring of three places, each of which leads to the next.
+fn ring(rt: &impl Abort, alloc: Global, goal: GroundCond) -> Task
+    ensures numbered { is_numbered result ≡ true }
+    ensures atoms { length result.atoms ≡ 3 }
+{
+    let mut atoms = pair(rt, alloc, place(alloc, 0), place(alloc, 1));
+    let mut actions = pair(rt, alloc, go(rt, alloc, 0, 1), go(rt, alloc, 1, 2));
+    let Ok(()) = atoms.push(place(alloc, 2)) else {
+        panic!(rt; "no memory")
+    };
+    let Ok(()) = actions.push(go(rt, alloc, 2, 0)) else {
+        panic!(rt; "no memory")
+    };
+    Task {
+        atoms,
+        terms: List::new(alloc),
+        forms: List::new(alloc),
+        actions,
+        goal: one(rt, alloc, goal),
+        start: row(rt, alloc),
+    }
+}
+
+// Whether the row in which this atom alone is true is a dead end.
+fn is_dead_in(rt: &impl Abort, task: &Task, atom: usize) -> bool
+    requires numbered { is_numbered task.now ≡ true }
+    requires atoms { atom < length task.now.atoms }
+{
+    let alloc = task.terms.allocator();
+    let Ok(mut row) = task.blank_row(alloc) else {
+        panic!(rt; "no memory")
+    };
+    row.set_bit(atom, true);
+    match dead(alloc, task, &row) {
+        Ok(dead) => dead,
+        Err(_) => panic!(rt; "no memory"),
+    }
+}
+
+#[test]
+fn no_place_of_a_ring_is_a_dead_end(rt: HostRuntime) -> Result<(), Fail> {
+    let alloc = rt.alloc();
+    let task = ring(&rt, alloc, GroundCond::Atom { atom: 2 });
+    assert!(rt; !is_dead_in(&rt, &task, 0));
+    assert!(rt; !is_dead_in(&rt, &task, 1));
+    assert!(rt; !is_dead_in(&rt, &task, 2));
     Ok(())
 }
