@@ -1,5 +1,6 @@
 ghost use Rattle.mf_task.specs.NumberedTasks.{is_numbered, is_numbered_action};
 ghost use Rattle.mf_task.specs.declared.task.Task.{Task};
+ghost use Rattle.std.specs.List.{list_all};
 ghost use Rattle.std.specs.Prelude.{◌≡◌, ◌<◌, ◌∷◌, [], length, true};
 
 use crate::dead;
@@ -85,9 +86,18 @@ fn action(rt: &impl Abort, alloc: Global, condition: GroundCond, op: Op) -> Grou
     }
 }
 
-// A task of one atom, which nothing changes, and the term x.
+// A task of one atom and the term x, with one instance.
 fn task(rt: &impl Abort, alloc: Global, action: GroundAction, goal: GroundCond) -> Task
     requires { (task : Task) → length task.terms ≡ 1 → is_numbered_action task action ≡ true }
+    ensures numbered { is_numbered result ≡ true }
+    ensures terms { length result.terms ≡ 1 }
+{
+    task_of(rt, alloc, one(rt, alloc, action), goal)
+}
+
+// A task of one atom and the term x.
+fn task_of(rt: &impl Abort, alloc: Global, actions: List<GroundAction>, goal: GroundCond) -> Task
+    requires { (task : Task) → length task.terms ≡ 1 → length task.atoms ≡ 1 → list_all (is_numbered_action task) actions ≡ true }
     ensures numbered { is_numbered result ≡ true }
     ensures terms { length result.terms ≡ 1 }
 {
@@ -103,7 +113,7 @@ fn task(rt: &impl Abort, alloc: Global, action: GroundAction, goal: GroundCond) 
         atoms: one(rt, alloc, atom),
         terms: one(rt, alloc, term),
         forms: forms(rt, alloc),
-        actions: one(rt, alloc, action),
+        actions,
         goal: one(rt, alloc, goal),
         start: row(rt, alloc),
     }
@@ -310,5 +320,46 @@ fn no_place_of_a_ring_is_a_dead_end(rt: HostRuntime) -> Result<(), Fail> {
     assert!(rt; !is_dead_in(&rt, &task, 0));
     assert!(rt; !is_dead_in(&rt, &task, 1));
     assert!(rt; !is_dead_in(&rt, &task, 2));
+    Ok(())
+}
+
+// An instance that makes the atom true where x is at least 10.
+fn signal(rt: &impl Abort, alloc: Global) -> GroundAction
+    ensures { (task : Task) → length task.atoms ≡ 1 → is_numbered_action task result ≡ true }
+{
+    let effect = GroundEffect {
+        condition: GroundCond::Fact { holds: true },
+        change: GroundChange::Add { atom: 0 },
+    };
+    GroundAction {
+        instance: Instance {
+            action: 0,
+            objects: List::new(alloc),
+        },
+        condition: compare(Relation::AtLeast, OVER_TEN),
+        effects: one(rt, alloc, effect),
+    }
+}
+
+fn both(rt: &impl Abort, alloc: Global, left: GroundCond, right: GroundCond) -> GroundCond {
+    let mut parts = Items::new(alloc);
+    push(rt, &mut parts, left);
+    push(rt, &mut parts, right);
+    GroundCond::And { parts }
+}
+
+#[test]
+fn a_number_that_has_to_rise_and_then_to_fall_is_no_dead_end(rt: HostRuntime) -> Result<(), Fail> {
+    let alloc = rt.alloc();
+    let up = action(&rt, alloc, GroundCond::Fact { holds: true }, Op::Increase);
+    let down = action(&rt, alloc, GroundCond::Fact { holds: true }, Op::Decrease);
+    let mut actions = pair(&rt, alloc, up, down);
+    let Ok(()) = actions.push(signal(&rt, alloc)) else {
+        panic!(rt; "no memory")
+    };
+    let atom = GroundCond::Atom { atom: 0 };
+    let goal = both(&rt, alloc, atom, compare(Relation::AtMost, X));
+    let task = task_of(&rt, alloc, actions, goal);
+    assert!(rt; !is_dead_at(&rt, &task, 0, 1));
     Ok(())
 }
