@@ -10,18 +10,20 @@ use Rattle.mf_search.specs.declared.entry.Entry.{Entry}
 use Rattle.mf_search.specs.declared.entry.Entry.TheVariants.{Done, Wide}
 use Rattle.mf_search.specs.Columns.{held_by}
 use Rattle.mf_search.specs.Keys.{HoldsOpen}
-use Rattle.mf_search.specs.Space.{Child as SpaceChild, Grown as SpaceGrown, Listed, children_of}
+use Rattle.mf_search.specs.Space.{Grown as SpaceGrown, IsListed, LeadsOut, Listed, children_of}
 use Rattle.mf_search.specs.World.{AtWide, Ending, Going, Legal, Opened, World, at, next, open_all, put, world}
 use Rattle.mf_search.proofs.Listing.{put_in_list}
 use Rattle.mf_search.proofs.OneStep.{legal_push, world_push}
 use Rattle.mf_task.specs.declared.grown.Child.{Child}
-use Rattle.mf_task.specs.CaseRows.{child_of, meaning_of}
+use Rattle.mf_task.specs.declared.grown.Grown.{Grown}
+use Rattle.mf_task.specs.declared.grown.Grown.TheVariants as grown
+use Rattle.mf_task.specs.CaseRows.{ExpansionParts, IsGrownOf, IsMadeOf, IsWayOut, child_of, meaning_of}
 use Rattle.mf_task.specs.Successors.{Case, space_of}
 use Rattle.mf_permits.specs.declared.ledger.End.{End}
 use Rattle.mf_permits.specs.declared.ledger.End.TheVariants as ends
 use Rattle.mf_permits.specs.declared.ledger.Ledger.{Ledger}
 use Rattle.mf_permits.specs.declared.tables.Tables.{Tables}
-use Rattle.mf_permits.specs.Core.{MayCome, world_of}
+use Rattle.mf_permits.specs.Core.{IsMadeAt, MayCome, entry_of, world_of}
 use Rattle.mf_permits.specs.Ledger.{Keeps, Shows, ending_of, idle_count, is_going, seen_of}
 use Rattle.mf_permits.specs.Tables.{AreTables, IsKeptRow, IsWhole, KeepsTables, OpensList, fields_of}
 use Rattle.mf_permits.proofs.TakeLaws.{idle_most}
@@ -158,3 +160,20 @@ keeps_wide case worker state instance old new keeps may wide = record {
   where
     w : World PlainState
     w = world_of case (seen_of old)
+
+-- Where the expansion was made from the state's row, its content is what the search rules give at the state.
+pub grown_at : (case : Case) (l : Ledger) (worker : ℕ) (made : ExpansionParts) (children : List Child) → IsMadeAt case (seen_of l) worker made → (world_of case (seen_of l)).busy worker ≡ Some made.state →
+    IsMadeOf case made.from children → (space_of case).grow (at (space_of case) (world_of case (seen_of l)).opened made.state).state ≡ Listed (map (child_of case) children)
+grown_at case l worker made children at_state holds is = ap (λ (x : PlainState). (space_of case).grow x) (sym (at_state holds)) ∙ is.list_is
+
+pub way_out_at : (case : Case) (l : Ledger) (worker : ℕ) (made : ExpansionParts) (instance : ℕ) → IsMadeAt case (seen_of l) worker made → (world_of case (seen_of l)).busy worker ≡ Some made.state →
+    IsWayOut case made.from instance → (space_of case).grow (at (space_of case) (world_of case (seen_of l)).opened made.state).state ≡ LeadsOut instance
+way_out_at case l worker made instance at_state holds is = ap (λ (x : PlainState). (space_of case).grow x) (sym (at_state holds)) ∙ is.way_out_is
+
+-- The entry of the expansion may come.
+pub may_finish : (case : Case) (l : Ledger) (worker : ℕ) (made : ExpansionParts) (grown : Grown) → (world_of case (seen_of l)).ending ≡ Going → IsMadeAt case (seen_of l) worker made → (world_of case (seen_of l)).busy worker ≡ Some made.state →
+    IsGrownOf case made.from grown → MayCome case (seen_of l) (entry_of worker made.state grown)
+may_finish case l worker made (grown.Made children) going at_state holds is =
+    record { going = going; holds = holds; listed = subst IsListed (sym (grown_at case l worker made children at_state holds is)) tt }
+may_finish case l worker made (grown.Wide instance) going at_state holds is =
+    record { going = going; holds = holds; leads_out = way_out_at case l worker made instance at_state holds is }

@@ -3,10 +3,10 @@ ghost use Rattle.mf_permits.specs.Ledger.{Keeps, seen_of};
 ghost use Rattle.mf_permits.specs.Tables.{HasRoom};
 ghost use Rattle.mf_search.specs.declared.entry.Entry.TheVariants.{Done, Wide};
 ghost use Rattle.mf_search.specs.Space.{Listed};
-ghost use Rattle.mf_search.specs.World.{at};
+ghost use Rattle.mf_search.specs.World.{Going, at};
 ghost use Rattle.mf_task.specs.CaseRows.{IsChildOf, IsGrownOf, child_of};
 ghost use Rattle.mf_task.specs.Successors.{space_of};
-ghost use Rattle.std.specs.Prelude.{◌≡◌, ◌+◌, ◌<◌, ◌≤◌, All, IfOk, OnErr, OnOk, length, map, vec_capacity};
+ghost use Rattle.std.specs.Prelude.{◌≡◌, ◌+◌, ◌<◌, ◌≤◌, All, IfOk, OnErr, OnOk, Some, length, map, vec_capacity};
 
 use crate::Finished;
 use crate::ledger::{End, Ledger};
@@ -62,4 +62,66 @@ fn be_wide<N: Naming>(ledger: &mut Ledger, worker: u16, state: u64, instance: u3
         state,
         instance,
     });
+}
+
+// The worker's expansion of this state, made from its row, is kept.
+fn keep<N: Naming>(
+    ledger: &mut Ledger,
+    worker: u16,
+    state: u64,
+    expansion: &Expansion<N>,
+) -> Result<(), Memory>
+    requires kept { Keeps N.case ledger.old }
+    requires low { 1 ≤ worker }
+    requires high { worker ≤ length ledger.old.busy.items }
+    requires going { (world_of N.case (seen_of ledger.old)).ending ≡ Going }
+    requires state { state ≡ expansion.now.state }
+    requires holds { (world_of N.case (seen_of ledger.old)).busy worker ≡ Some state }
+    requires made { IsMadeAt N.case (seen_of ledger.old) worker expansion.now }
+    ensures kept { Keeps N.case ledger.new }
+    ensures may { MayCome N.case (seen_of ledger.old) (entry_of worker state expansion.now.grown) }
+    ensures ok { OnOk result (seen_of ledger.new ≡ with_entry (seen_of ledger.old) (entry_of worker state expansion.now.grown)) }
+    ensures err { OnErr result (seen_of ledger.new ≡ seen_of ledger.old) }
+{
+    match grown_of(expansion) {
+        Grown::Made { children } => {
+            let children = children.as_slice();
+            make_room::<N>(ledger, children.len())?;
+            be_done::<N>(ledger, worker, state, children);
+        }
+        Grown::Wide { instance } => {
+            make_room::<N>(ledger, 0)?;
+            be_wide::<N>(ledger, worker, state, *instance);
+        }
+    }
+    Ok(())
+}
+
+// The worker hands in an expansion.
+pub(crate) fn finish<N: Naming>(
+    ledger: &mut Ledger,
+    worker: u16,
+    expansion: &Expansion<N>,
+) -> Result<Finished, Memory>
+    requires kept { Keeps N.case ledger.old }
+    requires low { 1 ≤ worker }
+    requires high { worker ≤ length ledger.old.busy.items }
+    requires made { IsMadeAt N.case (seen_of ledger.old) worker expansion.now }
+    ensures kept { Keeps N.case ledger.new }
+    ensures ok { IfOk result (λ finished. FinishTells N.case (seen_of ledger.old) (seen_of ledger.new) worker expansion.now finished) }
+    ensures err { OnErr result (seen_of ledger.new ≡ seen_of ledger.old) }
+{
+    if !ledger.end.is_going() {
+        return Ok(Finished::Late);
+    }
+    if ledger.halted {
+        return Ok(Finished::Late);
+    }
+    let given = state_of(expansion);
+    let kept = ledger.busy[worker as usize - 1];
+    if kept != Some(given) {
+        return Ok(Finished::Strange { kept, given });
+    }
+    keep::<N>(ledger, worker, given, expansion)?;
+    Ok(Finished::Kept)
 }
