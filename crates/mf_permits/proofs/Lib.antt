@@ -1,3 +1,4 @@
+pub mod FinishLaws
 pub mod GoLaws
 pub mod TableLaws
 pub mod TakeLaws

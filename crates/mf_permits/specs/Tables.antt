@@ -64,3 +64,12 @@ OpensChild case p child old new = (os : List (Opened PlainState)) (taken : List 
 -- The same of a list of children.
 abbrev pub OpensList : Case → ℕ → List Child → Tables → Tables → Type 0
 OpensList case p children old new = (os : List (Opened PlainState)) (taken : List ℕ) → AreTables case os taken old → AreTables case (open_all (space_of case) p (map (child_of case) children) os) taken new
+
+-- The tables are the same but for their room.
+pub record KeepsTables (old new : Tables) : Type 0 where
+  pub words : new.store.word_count ≡ old.store.word_count
+  pub values_count : new.store.value_count ≡ old.store.value_count
+  pub rows : new.store.rows ≡ old.store.rows
+  pub values : new.values.items ≡ old.values.items
+  pub makers : new.makers.items ≡ old.makers.items
+  pub keys : new.open_list.keys ≡ old.open_list.keys

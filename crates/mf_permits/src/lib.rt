@@ -3,9 +3,11 @@
 #![tactic(auto)]
 
 mod answers;
+mod finishing;
 mod holding;
 mod ledger;
 mod opening;
+mod reserving;
 mod tables;
 mod taking;
 
