@@ -9,6 +9,7 @@ mod fault;
 mod first_row;
 mod forms;
 mod goal;
+mod narrow;
 mod next_row;
 mod operation;
 mod reading;
