@@ -27,13 +27,17 @@ right_all : (a b : Bool) → (a && b) ≡ true → b ≡ true
 right_all true b e = e
 right_all false b e = cc
 
+pub flipped : (a b : Bool) → a ≡ not b → b ≡ not a
+flipped true true e = cc
+flipped true false e = refl
+flipped false true e = refl
+flipped false false e = cc
+
 module _ (old new : ℕ → Option Number) where
   same_at : (term : ℕ) → same_value (old term) (new term) ≡ true → old term ≡ new term
   same_at term e = (same_value-Decides (old term) (new term)).0 e
 
   -- a form that reads the same values has the same value
-  reads : Part → Bool
-  reads p = same_value (old p.term) (new p.term)
 
   defined_alike : (ps : List Part) → list_all (λ p. same_value (old p.term) (new p.term)) ps ≡ true → width.all_defined old ps ≡ width.all_defined new ps
   defined_alike [] e = refl
@@ -42,7 +46,7 @@ module _ (old new : ℕ → Option Number) where
       let others = defined_alike ps (right_all (same_value (old p.term) (new p.term)) (list_all (λ p. same_value (old p.term) (new p.term)) ps) e) in
       ap (λ (o : Option Number). is_some o && width.all_defined old ps) here ∙ ap (λ (b : Bool). is_some (new p.term) && b) others
 
-  added_alike : (ps : List Part) → list_all (λ p. same_value (old p.term) (new p.term)) ps ≡ true → (λ a. width.added_up old a ps) ≡ (λ a. width.added_up new a ps)
+  added_alike : (ps : List Part) → list_all (λ p. same_value (old p.term) (new p.term)) ps ≡ true → ◌≡◌ {A = Number → width.FormValue} (λ a. width.added_up old a ps) (λ a. width.added_up new a ps)
   added_alike [] e = refl
   added_alike (p ∷ ps) e =
       let here = same_at p.term (left_all (same_value (old p.term) (new p.term)) (list_all (λ p. same_value (old p.term) (new p.term)) ps) e) in

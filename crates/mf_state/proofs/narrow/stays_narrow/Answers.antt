@@ -7,7 +7,7 @@ use Rattle.mf_task.specs.declared.place.Place.{Place}
 use Rattle.mf_task.specs.Rows.{sight_of}
 use Rattle.mf_state.specs.Changing.{values_in}
 use Rattle.mf_state.proofs.NarrowRows.{narrow_is}
-use Rattle.mf_state.proofs.SameWidth.{narrow_by_forms, narrow_by_values, same_values}
+use Rattle.mf_state.proofs.SameWidth.{flipped, narrow_by_forms, narrow_by_values, same_values}
 use Rattle.mf_state.proofs.narrow.stays_narrow.Goals as goal
 
 pub returns-then-eq : goal.returns-then-eq
@@ -26,4 +26,7 @@ returns-then-are_as_wide c =
     sym (sym (narrow_by_forms task old new (sym c.are_as_wide.ensures ∙ c.if-are_as_wide.true)) ∙ c.requires.narrow)
 
 pub returns : goal.returns
-returns c = c.is_none.ensures ∙ ? ∙ sym (narrow_is c.args.task.now (sight_of c.args.next.now))
+returns c =
+    flipped _ _ c.is_none.ensures
+    ∙ ap (λ (o : Option Place). not (is_some o)) c.wide_place.ensures
+    ∙ sym (narrow_is c.args.task.now (sight_of c.args.next.now))
