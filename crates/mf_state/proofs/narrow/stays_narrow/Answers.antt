@@ -1,5 +1,5 @@
-use Rattle.std.proofs.Common.{◌≡◌, Bool, not, true, sym, ap, ap₂, ◌∙◌, List, Option}
-use Rattle.std.specs.Prelude.{is_none, is_some}
+use Rattle.std.proofs.Common.{◌≡◌, not, sym, ap, ap₂, ◌∙◌, List, Option}
+use Rattle.std.specs.Prelude.{is_some}
 use Rattle.std.specs.Cmp.Lexicographic.{pointwise}
 use Rattle.mf_fraction.specs.Exact.{Number}
 use Rattle.mf_store.specs.SameRows.{same_value}

@@ -1,6 +1,4 @@
-use Rattle.std.proofs.Common.{refl, subst, sym, ap, List, Option, ◌∙◌, ◌≡◌, false}
-use Rattle.std.specs.Prelude.{is_some}
-use Rattle.mf_task.specs.declared.place.Place.{Place}
+use Rattle.std.proofs.Common.{refl, subst, sym, ap, List, ◌≡◌, false}
 use Rattle.mf_task.specs.declared.ground.GroundEffect.{GroundEffect}
 use Rattle.mf_task.specs.GroundMeaning.{ground_firing}
 use Rattle.mf_task.specs.Rows.{sight_of}
