@@ -20,3 +20,6 @@ pub use expansion::{Next, successors};
 pub use fault::{StartFault, StepFault};
 pub use first_row::start;
 pub use goal::is_goal;
+
+#[cfg(test)]
+mod tests;
