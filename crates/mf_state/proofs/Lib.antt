@@ -5,4 +5,5 @@ mod Loops
 mod NarrowRows
 mod NextSights
 mod OneMore
+mod SameWidth
 mod WideConditions

@@ -1,7 +1,6 @@
 -- The row to which an action leads, from what its deletes, its adds and its numeric changes leave.
 use Rattle.std.proofs.Common.{◌≡◌, ℕ, Bool, true, false, not, ◌&&◌, ◌||◌, List, Option, refl, sym, ap, ◌∙◌}
 use Rattle.std.proofs.Math.Path.{fun_ext}
-use Rattle.std.specs.Prelude.{is_some}
 use Rattle.std.specs.List.{list_any}
 use Rattle.mf_fraction.specs.Exact.{Number}
 use Rattle.mf_store.specs.Rows.{RowLists, bit_in}
@@ -10,10 +9,9 @@ use Rattle.mf_task.specs.declared.ground.GroundChange.{GroundChange}
 use Rattle.mf_task.specs.declared.task.Task.{Task}
 use Rattle.mf_task.specs.GroundMeaning.{action_firing, adds_atom, deletes_atom, next_sight}
 use Rattle.mf_task.specs.Rows.{IsRowOf, Sight, sight_of}
-use Rattle.mf_task.specs.Width.{is_narrow, leads_out, wide_place}
+use Rattle.mf_task.specs.Width.{is_narrow, leads_out}
 use Rattle.mf_state.specs.Changing.{changed_value, is_change_wide, values_in}
 use Rattle.mf_state.specs.NextRows.{IsNextRow}
-use Rattle.mf_state.proofs.NarrowRows.{narrow_is}
 
 sight_by : (a b : Sight) → ((atom : ℕ) → a.bit atom ≡ b.bit atom) → ((term : ℕ) → a.value term ≡ b.value term) → a ≡ b
 sight_by a b bits values = λ i. record { bit = fun_ext bits i; value = fun_ext values i }
@@ -52,17 +50,14 @@ module _ (task : Task) (sight : Sight) (action : GroundAction) (old deleted adde
   shows_next : sight_of next ≡ next_sight task sight (action_firing task sight action)
   shows_next = sight_by (sight_of next) (next_sight task sight (action_firing task sight action)) bits_are values_are
 
-  -- whether a place is wide at the next row
-  module _ (found : Bool) (search_is : found ≡ is_some (wide_place task (sight_of next))) where
-    narrow_next : is_narrow task (sight_of next) ≡ not found
-    narrow_next = narrow_is task (sight_of next) ∙ ap not (sym search_is)
+  -- whether the next row is narrow
+  module _ (stays : Bool) (stays_is : stays ≡ is_narrow task (sight_of next)) where
+    narrow_there : is_narrow task (next_sight task sight (action_firing task sight action)) ≡ stays
+    narrow_there = ap (is_narrow task) (sym shows_next) ∙ sym stays_is
 
-    narrow_there : is_narrow task (next_sight task sight (action_firing task sight action)) ≡ not found
-    narrow_there = ap (is_narrow task) (sym shows_next) ∙ narrow_next
-
-    pub leads_out_by : found ≡ true → leads_out task sight action ≡ true
+    pub leads_out_by : stays ≡ false → leads_out task sight action ≡ true
     leads_out_by e =
-        or_not (is_change_wide task sight sight.value (action_firing task sight action)) (is_narrow task (next_sight task sight (action_firing task sight action))) (narrow_there ∙ ap not e)
+        or_not (is_change_wide task sight sight.value (action_firing task sight action)) (is_narrow task (next_sight task sight (action_firing task sight action))) (narrow_there ∙ e)
 
     -- the changes are not wide, from the old values
     module _ (shape : IsRowOf task next) (within : false ≡ is_change_wide task sight (values_in added.values) (action_firing task sight action)) where
@@ -72,8 +67,8 @@ module _ (task : Task) (sight : Sight) (action : GroundAction) (old deleted adde
           ∙ sym (ap (λ (values : List (Option Number)). is_change_wide task sight (values_in values) (action_firing task sight action)) (made.added_values ∙ made.deleted_values))
           ∙ sym within
 
-      pub next_row_by : found ≡ false → (leads_out task sight action ≡ false) × IsNextRow task sight action next
+      pub next_row_by : stays ≡ true → (leads_out task sight action ≡ false) × IsNextRow task sight action next
       next_row_by e = (
-        neither (is_change_wide task sight sight.value (action_firing task sight action)) (is_narrow task (next_sight task sight (action_firing task sight action))) from_old (narrow_there ∙ ap not e),
-        record { shape = shape; shows = shows_next; narrow = narrow_next ∙ ap not e },
+        neither (is_change_wide task sight sight.value (action_firing task sight action)) (is_narrow task (next_sight task sight (action_firing task sight action))) from_old (narrow_there ∙ e),
+        record { shape = shape; shows = shows_next; narrow = sym stays_is ∙ e },
       )

@@ -48,7 +48,8 @@ fn add_next(
 ) -> Result<(), StepFault>
     requires few { length task.now.actions ≤ 1000000 }
     requires shape { IsRowOf task.now row.now }
-    requires narrow { is_wide_action task.now (sight_of row.now) action.now ≡ false }
+    requires narrow { is_narrow task.now (sight_of row.now) ≡ true }
+    requires action { is_wide_action task.now (sight_of row.now) action.now ≡ false }
     requires sound { is_sound_action task.now action.now ≡ true }
     ensures { Adds task.now (sight_of row.now) action.now instance list.old list.new result }
 {

@@ -34,7 +34,7 @@ pub(crate) fn zero() -> Frac
     }
 }
 
-fn value_of_form(row: &Row, form: &Form) -> Result<Option<Frac>, Wide>
+pub(crate) fn value_of_form(row: &Row, form: &Form) -> Result<Option<Frac>, Wide>
     ensures checked { result ≡ answer_of (width.bounded_value (sight_of row.now).value form.now) }
     ensures exact { IfOk result (λ value. value ≡ form_value (sight_of row.now).value form.now) }
 {

@@ -9,6 +9,7 @@ mod fault;
 mod first_row;
 mod forms;
 mod goal;
+mod narrow;
 mod next_row;
 mod operation;
 mod reading;
@@ -19,3 +20,6 @@ pub use expansion::{Next, successors};
 pub use fault::{StartFault, StepFault};
 pub use first_row::start;
 pub use goal::is_goal;
+
+#[cfg(test)]
+mod tests;

@@ -4,7 +4,7 @@ ghost use Rattle.mf_state.specs.PackedTasks.{are_sound_effects, is_sound_action,
 ghost use Rattle.mf_store.specs.Rows.{bit_in};
 ghost use Rattle.mf_task.specs.GroundMeaning.{adds_atom, deletes_atom, ground_firing};
 ghost use Rattle.mf_task.specs.Rows.{IsRowOf, sight_of};
-ghost use Rattle.mf_task.specs.Width.{is_wide_action, is_wide_cond};
+ghost use Rattle.mf_task.specs.Width.{is_narrow, is_wide_action, is_wide_cond};
 ghost use Rattle.mf_task.specs.declared.ground.GroundChange.TheVariants as change;
 ghost use Rattle.std.specs.List.{list_any};
 ghost use Rattle.std.specs.Prelude.{◌≡◌, ◌≤◌, ◌<◌, ◌&&◌, ◌||◌, ◌∷◌, [], IfOk, ℕ, false, is_err, length, not, true};
@@ -12,9 +12,9 @@ ghost use Rattle.std.specs.Prelude.{◌≡◌, ◌≤◌, ◌<◌, ◌&&◌, ◌
 use crate::changes::right_side;
 use crate::conditions::holds;
 use crate::fault::StepFault;
+use crate::narrow::stays_narrow;
 use crate::operation::new_value;
 use crate::reading::value_of;
-use crate::width::wide_place;
 use mf_fraction::Wide;
 use mf_model::Op;
 use mf_task::{GroundAction, GroundChange, GroundEffect, Memory, Row, Task};
@@ -30,7 +30,8 @@ pub(crate) fn next_row(
 ) -> Result<Row, StepFault>
     requires few { length task.now.actions ≤ 1000000 }
     requires shape { IsRowOf task.now row.now }
-    requires narrow { is_wide_action task.now (sight_of row.now) action.now ≡ false }
+    requires narrow { is_narrow task.now (sight_of row.now) ≡ true }
+    requires action { is_wide_action task.now (sight_of row.now) action.now ≡ false }
     requires sound { is_sound_action task.now action.now ≡ true }
     ensures { IsStep task.now (sight_of row.now) action.now instance result }
 {
@@ -45,7 +46,7 @@ pub(crate) fn next_row(
         Ok(()) => {}
         Err(Wide) => return Err(StepFault::Wide { instance }),
     }
-    if wide_place(task, &next).is_some() {
+    if !stays_narrow(task, row, &next) {
         return Err(StepFault::Wide { instance });
     }
     Ok(next)

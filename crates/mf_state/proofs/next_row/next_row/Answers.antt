@@ -1,6 +1,4 @@
-use Rattle.std.proofs.Common.{refl, subst, sym, ap, List, Option, ◌∙◌, ◌≡◌, false}
-use Rattle.std.specs.Prelude.{is_some}
-use Rattle.mf_task.specs.declared.place.Place.{Place}
+use Rattle.std.proofs.Common.{refl, subst, sym, ap, List, ◌≡◌, false}
 use Rattle.mf_task.specs.declared.ground.GroundEffect.{GroundEffect}
 use Rattle.mf_task.specs.GroundMeaning.{ground_firing}
 use Rattle.mf_task.specs.Rows.{sight_of}
@@ -8,8 +6,8 @@ use Rattle.mf_state.specs.Changing.{is_change_wide, values_in}
 use Rattle.mf_state.proofs.NextSights.{IsMadeBy, leads_out_by, next_row_by}
 use Rattle.mf_state.proofs.next_row.next_row.Goals as goal
 
-pub returns-then-is_some : goal.returns-then-is_some
-returns-then-is_some c =
+pub returns-then-not-stays_narrow : goal.returns-then-not-stays_narrow
+returns-then-not-stays_narrow c =
     let task = c.args.task.now in
     let sight = sight_of c.args.row.now in
     let done = c.in-Ok-change_values.ensures in
@@ -24,7 +22,7 @@ returns-then-is_some c =
       next_values = done.values;
     }) in (
       refl,
-      leads_out_by task sight c.args.action.now c.in-Ok.next c.delete_atoms.new.next c.add_atoms.new.next c.change_values.new.next made c.is_some.result (c.is_some.ensures ∙ ap (λ (o : Option Place). is_some o) c.wide_place.ensures) c.if-is_some.true,
+      leads_out_by task sight c.args.action.now c.in-Ok.next c.delete_atoms.new.next c.add_atoms.new.next c.change_values.new.next made c.stays_narrow.result c.stays_narrow.ensures c.if-not-stays_narrow.true,
     )
 
 pub returns : goal.returns
@@ -44,4 +42,4 @@ returns c =
     }) in
     let within =
     subst (λ (es : List GroundEffect). false ≡ is_change_wide task sight (values_in c.add_atoms.new.next.values) (ground_firing task sight es)) c.as_slice-effects.ensures done.width in
-    next_row_by task sight c.args.action.now c.in-Ok.next c.delete_atoms.new.next c.add_atoms.new.next c.change_values.new.next made c.is_some.result (c.is_some.ensures ∙ ap (λ (o : Option Place). is_some o) c.wide_place.ensures) c.change_values.ensures.shape within c.if-is_some.false
+    next_row_by task sight c.args.action.now c.in-Ok.next c.delete_atoms.new.next c.add_atoms.new.next c.change_values.new.next made c.stays_narrow.result c.stays_narrow.ensures c.change_values.ensures.shape within c.if-not-stays_narrow.false
