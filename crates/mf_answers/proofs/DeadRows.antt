@@ -1,20 +1,19 @@
 -- From a dead row no list of instances is a plan.
-use Rattle.std.proofs.Common.{◌≡◌, ◌⊎◌, inl, inr, ℕ, ◌<◌, Bool, true, false, not, ◌&&◌, nat_eq, if◌then◌else◌, List, [], ◌∷◌, length, get_or, map, filter, Option, Some, None, refl, sym, ap, subst, ◌∙◌, arith, ⊎_elim, true≢false}
-use Rattle.std.specs.Prelude.{IfSome, Contains}
+use Rattle.std.proofs.Common.{◌≡◌, ◌⊎◌, inl, inr, ℕ, ◌<◌, Bool, true, false, nat_eq, if◌then◌else◌, List, [], ◌∷◌, length, get_or, map, Option, Some, None, refl, sym, ap, subst, ◌∙◌, arith, ⊎_elim, true≢false}
+use Rattle.std.specs.Prelude.{Contains}
 use Rattle.std.specs.List.{AllByRecursion, fold, list_all}
 use Rattle.std.proofs.lemmas.Bool.{and_parts, cases_lt}
 use Rattle.std.proofs.lemmas.List.{get_or_past}
-use Rattle.mf_fraction.specs.Exact.{Number, Proper, quotient_of}
+use Rattle.mf_fraction.specs.Exact.{Number, quotient_of}
 use Rattle.mf_fraction.proofs.Algebra.{difference_of-proper, quotient_of-proper}
 use Rattle.mf_store.specs.Rows.{RowLists}
 use Rattle.mf_model.specs.declared.state.Instance.{Instance}
-use Rattle.mf_model.specs.declared.state.PlainState.{PlainState}
 use Rattle.mf_model.specs.declared.task.Op.{Op}
 use Rattle.mf_model.specs.declared.task.Op.TheVariants.{Assign, Increase, Decrease, ScaleUp, ScaleDown}
 use Rattle.mf_model.specs.declared.task.TypedTask.{TypedTask}
 use Rattle.mf_model.specs.Application.{new_value}
 use Rattle.mf_model.specs.LiveInstances.{live_instances}
-use Rattle.mf_model.specs.Meaning.{minus, over, plus, times}
+use Rattle.mf_model.specs.Meaning.{minus, over}
 use Rattle.mf_model.specs.ResolvedTask.{IsResolvedTask}
 use Rattle.mf_model.specs.SearchStates.{with_costs}
 use Rattle.mf_model.specs.States.{look_of}
@@ -26,9 +25,8 @@ use Rattle.mf_task.specs.declared.ground.GroundChange.TheVariants as change
 use Rattle.mf_task.specs.declared.ground.GroundEffect.{GroundEffect}
 use Rattle.mf_task.specs.declared.task.Task.{Task}
 use Rattle.mf_task.specs.GroundMeaning.{action_firing, form_at, ground_firing, ground_holds, is_ground_applicable, is_ground_goal, next_sight, right_side, value_after}
-use Rattle.mf_task.specs.Grounding.{numbering_of}
 use Rattle.mf_task.specs.LimitClosure.{is_dead}
-use Rattle.mf_task.specs.NumberedTasks.{HasProperForms, IsProperSight, is_numbered, is_numbered_action, is_numbered_change}
+use Rattle.mf_task.specs.NumberedTasks.{HasProperForms, IsProperSight, is_numbered_action, is_numbered_change}
 use Rattle.mf_task.specs.Rows.{IsRowOf, Sight, sight_of}
 use Rattle.mf_task.specs.RowStates.{state_of}
 use Rattle.mf_task.specs.Successors.{packed_of}

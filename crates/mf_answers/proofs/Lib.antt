@@ -1,2 +1,3 @@
 pub mod RowsOf
 pub mod DeadRows
+pub mod InfiniteStates

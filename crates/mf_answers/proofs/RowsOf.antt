@@ -1,13 +1,12 @@
 -- A row for each sight, and the sights of next rows.
-use Rattle.std.proofs.Common.{◌≡◌, ◌⊎◌, inl, inr, ℕ, zero, suc, ◌+◌, ◌<◌, ◌≤◌, ◌*◌, Bool, true, false, not, ◌&&◌, ◌||◌, nat_eq, nat_lt, if◌then◌else◌, List, [], ◌∷◌, ◌++◌, length, get_or, Option, Some, None, refl, sym, ap, ap₂, subst, ◌∙◌, arith, ⊎_elim, true≢false}
-use Rattle.std.specs.Prelude.{IfSome, pos}
-use Rattle.std.specs.List.{AllByRecursion, All, fold, list_all, list_any}
+use Rattle.std.proofs.Common.{◌≡◌, ◌⊎◌, ℕ, zero, suc, ◌+◌, ◌<◌, ◌≤◌, Bool, true, false, not, ◌&&◌, ◌||◌, nat_eq, nat_lt, List, [], ◌∷◌, ◌++◌, length, get_or, Option, None, refl, sym, ap, ap₂, ◌∙◌, arith, ⊎_elim}
+use Rattle.std.specs.List.{AllByRecursion, fold, list_any}
 use Rattle.std.proofs.Math.Path.{fun_ext}
 use Rattle.std.proofs.Math.Seq.{get_or-append_seam}
-use Rattle.std.proofs.lemmas.Bool.{and_parts, cases_lt, eqb-true, ltb-true}
+use Rattle.std.proofs.lemmas.Bool.{cases_lt, eqb-true, ltb-true}
 use Rattle.std.proofs.lemmas.List.{get_or_append_left, length-append}
 use Rattle.std.proofs.lemmas.List.{get_or_past}
-use Rattle.mf_fraction.specs.Exact.{Number, Proper}
+use Rattle.mf_fraction.specs.Exact.{Number}
 use Rattle.mf_store.specs.Rows.{RowLists, bit_in}
 use Rattle.mf_task.specs.declared.ground.GroundChange.{GroundChange}
 use Rattle.mf_task.specs.declared.ground.GroundChange.TheVariants as change

@@ -1,10 +1,9 @@
 -- The value of an expression is that of its form.
 use Rattle.std.proofs.Common.{◌≡◌, ℕ, pos, Bool, true, false, not, ◌&&◌, ◌||◌, nat_eq, List, [], ◌∷◌, map, Option, refl, sym, subst, ap, ◌∙◌}
-use Rattle.std.specs.Prelude.{nat_lt, unsigned_abs, IfSome}
+use Rattle.std.specs.Prelude.{IfSome}
 use Rattle.std.specs.List.{list_all, list_any}
-use Rattle.std.proofs.lemmas.Bool.{and_parts, eq-eqb, eqb-true, false≢true, ltb-true}
-use Rattle.mf_fraction.specs.Exact.{Number, Proper, whole, fits}
-use Rattle.mf_fraction.specs.Gcd.{gcd}
+use Rattle.std.proofs.lemmas.Bool.{and_parts, eq-eqb, false≢true}
+use Rattle.mf_fraction.specs.Exact.{Number, whole}
 use Rattle.mf_fraction.proofs.Reduced.{whole-proper}
 use Rattle.mf_model.specs.declared.task.Expr.{Expr}
 use Rattle.mf_model.specs.declared.task.Expr.TheOpen.{Expr-F}
@@ -15,7 +14,7 @@ use Rattle.mf_model.specs.Expressions.{reads, reads_step}
 use Rattle.mf_model.specs.Functions.{is_constant, is_cost}
 use Rattle.mf_model.specs.Linearity.{Degree, all_degrees, degree_of, degree_step, function_degree, is_linear, is_within, product_degree, sum_degree}
 use Rattle.mf_model.specs.Meaning.{combined, compared, plus, product_of_all, sum_of_all, times, value_of, value_step}
-use Rattle.mf_model.specs.ResolvedTask.{has_stored_numbers, is_stored, stored_step}
+use Rattle.mf_model.specs.ResolvedTask.{has_stored_numbers, stored_step}
 use Rattle.mf_model.specs.Views.{Look, objects_of}
 use Rattle.mf_task.specs.declared.form.Form.{Form}
 use Rattle.mf_task.specs.GroundMeaning.{truth_at}
@@ -24,14 +23,9 @@ use Rattle.mf_task.specs.LinearForms.{combined_forms, form_of, form_step, functi
 use Rattle.mf_task.specs.Rows.{Sight}
 use Rattle.mf_bridge.specs.Readable.{IsReadable}
 use Rattle.mf_bridge.specs.Shows.{Shows}
-use Rattle.mf_bridge.proofs.Numbers.{compared-difference}
+use Rattle.mf_bridge.proofs.Numbers.{compared-difference, stored_is_proper}
 use Rattle.mf_bridge.proofs.Weights.{IsLowestForm}
 use Rattle.mf_bridge.proofs.FormLaws.{Tells, product_degree-assoc, product_degree-constant, sum_degree-assoc, sum_degree-constant, tells_difference, tells_lowest, tells_negative, tells_number, tells_product, tells_quotient, tells_start, tells_sum, tells_term, within_product, within_quotient, within_sum, constant_within}
-
-stored_is_proper : (a : Number) → is_stored a ≡ true → Proper a
-stored_is_proper a s =
-    let outer = and_parts (fits a && nat_lt 0 a.den) (nat_eq (gcd (unsigned_abs a.num) a.den) 1) s in
-    record { lowest = eqb-true (gcd (unsigned_abs a.num) a.den) 1 outer.1; positive = ltb-true 0 a.den (and_parts (fits a) (nat_lt 0 a.den) outer.0).1 }
 
 not_or : (a b : Bool) → not (a || b) ≡ true → (not a ≡ true) × (not b ≡ true)
 not_or true b e = absurd (false≢true e)

@@ -1,10 +1,8 @@
 -- The changes of an instance are of atoms and terms of the packed task.
-use Rattle.std.proofs.Common.{◌≡◌, ℕ, Bool, true, false, not, ◌&&◌, ◌||◌, if◌then◌else◌, nat_eq, List, [], ◌∷◌, ◌++◌, map, Option, Some, None, refl, sym, subst, ap, ◌∙◌}
+use Rattle.std.proofs.Common.{◌≡◌, ℕ, Bool, true, false, not, ◌||◌, if◌then◌else◌, List, [], ◌∷◌, ◌++◌, map, Option, Some, None, refl, sym, subst, ap, ◌∙◌}
 use Rattle.std.specs.Prelude.{⊤, slice_get, Contains}
 use Rattle.std.specs.List.{AllByRecursion, flat_map, list_all, list_any}
 use Rattle.std.proofs.lemmas.Bool.{and_parts, eq-eqb, false≢true}
-use Rattle.mf_model.specs.declared.task.Op.{Op}
-use Rattle.mf_fraction.specs.Exact.{Number}
 use Rattle.mf_model.specs.declared.task.Action.{Action}
 use Rattle.mf_model.specs.declared.task.Atom.{Atom}
 use Rattle.mf_model.specs.declared.task.Cell.{Cell}
@@ -15,7 +13,7 @@ use Rattle.mf_model.specs.declared.task.TypedTask.{TypedTask}
 use Rattle.mf_model.specs.declared.state.Instance.{Instance}
 use Rattle.mf_model.specs.declared.state.PlainState.{PlainState}
 use Rattle.mf_model.specs.Application.{Change, Added, Deleted, Changed, action_changes, changes_of, firing_of, firing_step}
-use Rattle.mf_model.specs.Functions.{is_constant, is_cost}
+use Rattle.mf_model.specs.Functions.{is_constant}
 use Rattle.mf_model.specs.Meaning.{holds_in}
 use Rattle.mf_model.specs.Objects.{bindings, kinds_of}
 use Rattle.mf_model.specs.States.{is_atom, look_of}
@@ -28,6 +26,7 @@ use Rattle.mf_task.specs.Grounding.{changed_atoms, changed_atoms_step, condition
 use Rattle.mf_bridge.specs.ListedChanges.{IsListedChange}
 use Rattle.mf_bridge.proofs.CoveredTerms.{instance_terms_covered}
 use Rattle.mf_bridge.proofs.FluentAtoms.{changed_atoms_covered}
+use Rattle.mf_bridge.proofs.Lists.{all_append}
 use Rattle.mf_bridge.proofs.ListTests.{any_back, any_front}
 
 -- the atom of a change is among these, and its term is among those
@@ -49,13 +48,9 @@ named_back atoms others cells more (Changed op f os value) named = any_back (is_
 abbrev AreNamed : List Atom → List Cell → List Change → Type 0
 AreNamed atoms cells = AllByRecursion (IsNamed atoms cells)
 
-all_joined : (P : Change → Type 0) (xs ys : List Change) → AllByRecursion P xs → AllByRecursion P ys → AllByRecursion P (xs ++ ys)
-all_joined P [] ys first second = second
-all_joined P (x ∷ xs) ys first second = (first.0, all_joined P xs ys first.1 second)
-
 both_named : (atoms others : List Atom) (cells more : List Cell) (cs ds : List Change) → AreNamed atoms cells cs → AreNamed others more ds → AreNamed (atoms ++ others) (cells ++ more) (cs ++ ds)
 both_named atoms others cells more cs ds first second =
-    all_joined (IsNamed (atoms ++ others) (cells ++ more)) cs ds
+    all_append (IsNamed (atoms ++ others) (cells ++ more)) cs ds
     (all_weaker (IsNamed atoms cells) (IsNamed (atoms ++ others) (cells ++ more)) (named_front atoms others cells more) cs first)
     (all_weaker (IsNamed others more) (IsNamed (atoms ++ others) (cells ++ more)) (named_back atoms others cells more) ds second)
 

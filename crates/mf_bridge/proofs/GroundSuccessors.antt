@@ -1,7 +1,7 @@
 -- The successor list of a row's state is the one that is made of the packed task alone.
-use Rattle.std.proofs.Common.{◌≡◌, ℕ, ◌+◌, Bool, true, false, cond, List, [], ◌∷◌, map, Option, Some, None, refl, sym, subst, ap, ap₂, ◌∙◌, arith}
-use Rattle.std.specs.Prelude.{slice_get, length, is_some, Contains}
-use Rattle.std.specs.List.{AllByRecursion, flat_map}
+use Rattle.std.proofs.Common.{◌≡◌, ℕ, ◌+◌, Bool, true, false, cond, List, [], ◌∷◌, map, Option, Some, None, refl, sym, ap, ap₂, ◌∙◌, arith}
+use Rattle.std.specs.Prelude.{length, is_some, Contains}
+use Rattle.std.specs.List.{AllByRecursion}
 use Rattle.std.proofs.lemmas.List.Elements.{All-contains_itself, recursion_from_All}
 use Rattle.mf_store.specs.Rows.{RowLists}
 use Rattle.mf_model.specs.declared.state.Instance.{Instance}
@@ -9,7 +9,6 @@ use Rattle.mf_model.specs.declared.state.PlainState.{PlainState}
 use Rattle.mf_model.specs.declared.task.TypedTask.{TypedTask}
 use Rattle.mf_model.specs.Application.{action_changes, changes_of, is_applicable}
 use Rattle.mf_model.specs.LiveInstances.{live_instances}
-use Rattle.mf_model.specs.Objects.{kinds_of}
 use Rattle.mf_model.specs.ResolvedTask.{IsResolvedTask}
 use Rattle.mf_model.specs.SearchStates.{HasStartCosts, with_costs}
 use Rattle.mf_model.specs.States.{look_of, start_of, value_at}
@@ -18,17 +17,18 @@ use Rattle.mf_search.specs.Space.{Child as SpaceChild, Grown, Listed, LeadsOut}
 use Rattle.mf_task.specs.declared.ground.GroundAction.{GroundAction}
 use Rattle.mf_task.specs.declared.grown.Offspring.{Offspring}
 use Rattle.mf_task.specs.declared.task.Task.{Task}
-use Rattle.mf_task.specs.CaseRows.{meaning_of, offspring_of}
+use Rattle.mf_task.specs.declared.value.Value.{Value}
+use Rattle.mf_task.specs.CaseRows.{IsRoot, meaning_of, number_of, offspring_of}
 use Rattle.mf_task.specs.GroundMeaning.{action_firing, is_ground_applicable, next_sight}
-use Rattle.mf_task.specs.Grounding.{ground_of, numbering_of}
+use Rattle.mf_task.specs.Grounding.{numbering_of}
 use Rattle.mf_task.specs.HeuristicValues.{helpful_of, state_value}
 use Rattle.mf_task.specs.Rows.{IsRowOf, Sight, sight_of}
 use Rattle.mf_task.specs.RowStates.{state_of}
-use Rattle.mf_task.specs.Successors.{Case, child_by, children_from, grown_by, is_among, packed_of, sight_in, space_of, successor_list}
-use Rattle.mf_task.specs.Width.{way_out}
+use Rattle.mf_task.specs.Successors.{Case, child_by, children_from, grown_by, packed_of, sight_in, space_of}
+use Rattle.mf_task.specs.Width.{is_narrow, way_out}
 use Rattle.mf_bridge.specs.Corresponds.{AreSameChanges, HasSight}
 use Rattle.mf_bridge.specs.Deeds.{deed_of}
-use Rattle.mf_bridge.specs.GroundSuccessors.{AreGroundSuccessors, AreSuccessorsFrom, FirstAndRest, HasEntry, IsSuccessor}
+use Rattle.mf_bridge.specs.GroundSuccessors.{AreGroundSuccessors, AreSuccessorsFrom, HasEntry, IsSuccessor}
 use Rattle.mf_bridge.specs.Shows.{Shows}
 use Rattle.mf_bridge.specs.StoredRows.{HasLowestValues}
 use Rattle.mf_bridge.specs.UnlistedAtoms.{HidesUnlistedAtoms}
@@ -39,6 +39,7 @@ use Rattle.mf_bridge.proofs.FiredNames.{changes_are_listed}
 use Rattle.mf_bridge.proofs.NextStates.{next_is_next}
 use Rattle.mf_bridge.proofs.RowSights.{row_shows, sights_are_same}
 use Rattle.mf_bridge.proofs.SameDeeds.{same_from_deeds}
+use Rattle.mf_bridge.proofs.StartRows.{start_has_shape, start_is_start}
 use Rattle.mf_bridge.proofs.StateLookups.{packed_is_listed, value_with_costs}
 
 module _ (task : TypedTask) (row : RowLists) (resolved : IsResolvedTask task) (shape : IsRowOf (packed_of task) row) (lowest : HasLowestValues row) where
@@ -136,3 +137,13 @@ module _ (case : Case) (row : RowLists) (shape : IsRowOf (packed_of case.task) r
   pub leads_out_is : (instance : ℕ) → way_out (packed_of case.task) (sight_of row) ≡ Some instance → (space_of case).grow (meaning_of case row) ≡ LeadsOut instance
   unfolding meaning_of space_of
   leads_out_is instance out = ap (grown_by case (state_of case.task (packed_of case.task) row)) (ap (way_out (packed_of case.task)) sights ∙ out)
+
+pub root_is : (case : Case) (value : Value) → is_narrow (packed_of case.task) (sight_of (packed_of case.task).start) ≡ true → state_value case.heuristic (packed_of case.task) (sight_of (packed_of case.task).start) ≡ number_of value → IsRoot case (record { row = (packed_of case.task).start; value = value })
+unfolding meaning_of space_of
+root_is case value narrow is =
+    let shape = start_has_shape case.task (live_instances case.task) in
+    record {
+      row_is = record { shape = shape; narrow = narrow };
+      start_is = start_is_start case.task (live_instances case.task);
+      value_is = record { value_is = value_is case (packed_of case.task).start shape ∙ is };
+    }

@@ -1,10 +1,10 @@
 -- The forms of the packed task of a resolved task are in lowest terms.
-use Rattle.std.proofs.Common.{◌≡◌, ℕ, zero, suc, Bool, true, false, if◌then◌else◌, List, [], ◌∷◌, ◌++◌, map, length, get_or, Option, Some, None, refl, sym, subst, ap, ◌∙◌, ⊎_elim}
-use Rattle.std.specs.Prelude.{pos, slice_get, Contains, IfSome}
-use Rattle.std.specs.List.{AllByRecursion, All, flat_map, fold, list_all, list_any}
+use Rattle.std.proofs.Common.{◌≡◌, ℕ, zero, suc, Bool, true, false, if◌then◌else◌, List, [], ◌∷◌, ◌++◌, map, get_or, Option, Some, None, refl, sym, subst, ◌∙◌}
+use Rattle.std.specs.Prelude.{pos, slice_get, IfSome}
+use Rattle.std.specs.List.{AllByRecursion, flat_map, fold, list_all, list_any}
 use Rattle.std.proofs.lemmas.Bool.{and_parts}
 use Rattle.std.proofs.lemmas.List.Elements.{All-from_recursion}
-use Rattle.mf_fraction.specs.Exact.{Number, Proper, whole}
+use Rattle.mf_fraction.specs.Exact.{Proper, whole}
 use Rattle.mf_fraction.proofs.Reduced.{whole-proper}
 use Rattle.mf_model.specs.declared.task.Action.{Action}
 use Rattle.mf_model.specs.declared.task.Cell.{Cell}
@@ -24,8 +24,6 @@ use Rattle.mf_model.specs.States.{look_of, start_of, value_at}
 use Rattle.mf_model.specs.Views.{Look}
 use Rattle.mf_task.specs.declared.form.Form.{Form}
 use Rattle.mf_task.specs.declared.form.Part.{Part}
-use Rattle.mf_task.specs.declared.task.Task.{Task}
-use Rattle.mf_task.specs.GroundMeaning.{form_at}
 use Rattle.mf_task.specs.Grounding.{Numbering, changing_form, same_form, compared_form, comparison_forms, condition_forms, condition_forms_step, effect_forms, effect_forms_step, forms_of, functions_in, functions_of, ground_of, numbering_of, some_form, terms_of, with_action, with_form, with_some_action}
 use Rattle.mf_task.specs.LinearForms.{constant_form, form_of}
 use Rattle.mf_task.specs.NumberedTasks.{HasProperForms, IsProperForm}

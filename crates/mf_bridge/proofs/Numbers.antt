@@ -1,9 +1,10 @@
 -- The laws of exact fractions at values that may be undefined.
-use Rattle.std.proofs.Common.{◌≡◌, ℤ, pos, negsuc, ◌*ℤ◌, neg_ℤ, zero, suc, ◌*◌, Bool, true, false, not, ◌&&◌, Option, Some, None, refl, sym, ap, ap₂, ◌∙◌, arith}
-use Rattle.std.specs.Prelude.{IfSome, if◌then◌else◌}
+use Rattle.std.proofs.Common.{◌≡◌, ℤ, pos, negsuc, ◌*ℤ◌, neg_ℤ, zero, suc, ◌*◌, Bool, true, false, not, ◌&&◌, nat_eq, nat_lt, Option, Some, None, refl, sym, ap, ap₂, ◌∙◌, arith}
+use Rattle.std.specs.Prelude.{IfSome, if◌then◌else◌, unsigned_abs}
 use Rattle.std.specs.declared.cmp.Ordering.TheVariants.{Less, Equal, Greater}
-use Rattle.std.proofs.lemmas.Bool.{false≢true}
-use Rattle.mf_fraction.specs.Exact.{Number, Proper, whole, reduce, sum_of, difference_of, product_of, quotient_by, quotient_of, negative_of, order_of, is_below}
+use Rattle.std.proofs.lemmas.Bool.{and_parts, eqb-true, false≢true, ltb-true}
+use Rattle.mf_fraction.specs.Gcd.{gcd}
+use Rattle.mf_fraction.specs.Exact.{Number, Proper, fits, whole, reduce, sum_of, difference_of, product_of, quotient_by, quotient_of, negative_of, order_of, is_below}
 use Rattle.mf_fraction.proofs.Algebra.{sum_of-comm, sum_of-assoc, sum_of-zero, sum_of-proper, sum_of-negative, difference_of-negative, difference_of-product, product_of-comm, product_of-assoc, product_of-one, product_of-zero, product_of-sum, product_of-proper, product_of-reduce_left, negative_of-proper}
 use Rattle.mf_fraction.proofs.Monotone.{order_of-sum}
 use Rattle.mf_fraction.proofs.OrderLaws.{is_at_most-is, is_below-self, is_below-trans, is_same-is, order_of-is}
@@ -11,9 +12,15 @@ use Rattle.mf_fraction.proofs.Reduced.{reduce_self}
 use Rattle.mf_fraction.proofs.Signed.{signed, natural, times as product, negated as negation, equal_by}
 use Rattle.mf_model.specs.declared.task.Relation.{Relation}
 use Rattle.mf_model.specs.declared.task.Relation.TheVariants as relation
+use Rattle.mf_model.specs.ResolvedTask.{is_stored}
 use Rattle.mf_model.specs.Meaning.{compared, minus, negated, ordered, plus, times, truth_of}
 use Rattle.mf_task.specs.GroundMeaning.{relates, sign, truth_at}
 use Rattle.mf_task.specs.LinearForms.{minus_one}
+
+pub stored_is_proper : (a : Number) → is_stored a ≡ true → Proper a
+stored_is_proper a stored =
+    let outer = and_parts (fits a && nat_lt 0 a.den) (nat_eq (gcd (unsigned_abs a.num) a.den) 1) stored in
+    record { lowest = eqb-true (gcd (unsigned_abs a.num) a.den) 1 outer.1; positive = ltb-true 0 a.den (and_parts (fits a) (nat_lt 0 a.den) outer.0).1 }
 
 abbrev pub IsLowest : Option Number → Type 0
 IsLowest x = IfSome x Proper

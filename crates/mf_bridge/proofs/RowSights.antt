@@ -1,12 +1,11 @@
 -- A row and the state that it stands for show the same.
-use Rattle.std.proofs.Common.{◌≡◌, ℕ, zero, suc, ◌≤◌, Bool, true, false, not, ◌&&◌, ◌||◌, cond, nat_eq, nat_lt, List, [], ◌∷◌, length, Option, Some, None, refl, sym, subst, ap, ◌∙◌, arith, ⊎_elim}
-use Rattle.std.specs.Prelude.{get_or, slice_get, IfSome, IsTrue, unsigned_abs}
+use Rattle.std.proofs.Common.{◌≡◌, ℕ, zero, suc, ◌≤◌, Bool, true, false, not, ◌&&◌, ◌||◌, cond, List, [], ◌∷◌, length, Option, Some, None, refl, sym, subst, ap, ◌∙◌, arith, ⊎_elim}
+use Rattle.std.specs.Prelude.{get_or, slice_get, IfSome, IsTrue}
 use Rattle.std.specs.List.{AllByRecursion, fold, position_or_len}
-use Rattle.std.proofs.lemmas.Bool.{and_parts, cases_lt, eqb-true, false≢true, ltb-true}
+use Rattle.std.proofs.lemmas.Bool.{cases_lt, false≢true}
 use Rattle.std.proofs.lemmas.List.{get_or_past}
 use Rattle.std.proofs.lemmas.List.Elements.{recursion_from_All}
-use Rattle.mf_fraction.specs.Exact.{Number, Proper, fits}
-use Rattle.mf_fraction.specs.Gcd.{gcd}
+use Rattle.mf_fraction.specs.Exact.{Number, Proper}
 use Rattle.mf_store.specs.Rows.{RowLists, bit_in}
 use Rattle.mf_model.specs.declared.task.Atom.{Atom}
 use Rattle.mf_model.specs.declared.task.Cell.{Cell}
@@ -25,15 +24,12 @@ use Rattle.mf_task.specs.RowStates.{state_of}
 use Rattle.mf_task.specs.Successors.{shows_atom, sight_in, value_shown}
 use Rattle.mf_bridge.specs.Shows.{Shows}
 use Rattle.mf_bridge.specs.StoredRows.{HasLowestValues}
+use Rattle.mf_bridge.proofs.Lists.{at_found}
 use Rattle.mf_bridge.proofs.ListTests.{any_at_place, place_at_place}
+use Rattle.mf_bridge.proofs.Numbers.{stored_is_proper}
 use Rattle.mf_bridge.proofs.StateLookups.{IsListed, changing_in_state, constant_with_costs, fluent_in_state, listed_in_state, listed_value_in_state, packed_is_listed, static_in_state, value_with_costs}
 
 -- lowest terms
-
-stored_is_proper : (a : Number) → is_stored a ≡ true → Proper a
-stored_is_proper a stored =
-    let outer = and_parts (fits a && nat_lt 0 a.den) (nat_eq (gcd (unsigned_abs a.num) a.den) 1) stored in
-    record { lowest = eqb-true _ _ outer.1; positive = ltb-true _ _ (and_parts (fits a) (nat_lt 0 a.den) outer.0).1 }
 
 abbrev AreLowest : List Valued → Type 0
 AreLowest = AllByRecursion (λ v. Proper v.value)
@@ -103,13 +99,6 @@ module _ (task : TypedTask) (instances : List Instance) (row : RowLists) (shape 
 
 -- by numbers
 
-found_holds : {X : Type 0} (P : X → Type 0) (xs : List X) (n : ℕ) (x : X) → AllByRecursion P xs → slice_get xs n ≡ Some x → P x
-found_holds P [] n x all found = cc
-found_holds P (y ∷ ys) zero x all found =
-    let is : y ≡ x = cc in
-    subst P is all.0
-found_holds P (y ∷ ys) (suc n) x all found = found_holds P ys n x all.1 found
-
 past_end : {X : Type 0} (xs : List X) (n : ℕ) → slice_get xs n ≡ None → length xs ≤ n
 past_end [] n none = omega arith
 past_end (x ∷ xs) zero none = cc
@@ -138,7 +127,7 @@ module _ (task : TypedTask) (packed : Task) (listed : IsListed task packed) (row
     where
       by : (found : Option Atom) → slice_get packed.atoms n ≡ found → shows_atom (state_of task packed row) found ≡ bit_in row.bits n
       by (Some a) is =
-          listed_in_state task packed listed row a.predicate a.objects (found_holds (λ a. is_static task a.predicate ≡ false) packed.atoms n a listed.fluent is)
+          listed_in_state task packed listed row a.predicate a.objects (at_found (λ a. is_static task a.predicate ≡ false) packed.atoms n a listed.fluent is)
           ∙ ap (λ (b : Bool). b && bit_in row.bits (position_or_len (same_atom a) packed.atoms)) (any_at_place atom_before same_atom atom_self atom_back packed.atoms n a is)
           ∙ ap (λ (k : ℕ). bit_in row.bits k) (place_at_place atom_before same_atom atom_self atom_back packed.atoms n a listed.atoms is)
       by None is = sym (shape.clear n (past_end packed.atoms n is))
@@ -155,7 +144,7 @@ module _ (task : TypedTask) (packed : Task) (listed : IsListed task packed) (row
     where
       by : (found : Option Cell) → slice_get packed.terms n ≡ found → value_shown (state_of task packed row) found ≡ get_or row.values n None
       by (Some c) is =
-          listed_value_in_state task packed listed row c.function c.objects (changes c.function (found_holds (λ c. is_row_cell task c ≡ true) packed.terms n c listed.changing is))
+          listed_value_in_state task packed listed row c.function c.objects (changes c.function (at_found (λ c. is_row_cell task c ≡ true) packed.terms n c listed.changing is))
           ∙ ap (λ (b : Bool). cond b (get_or row.values (position_or_len (same_term c) packed.terms) None) None) (any_at_place term_before same_term cell_self cell_back packed.terms n c is)
           ∙ ap (λ (k : ℕ). get_or row.values k None) (place_at_place term_before same_term cell_self cell_back packed.terms n c listed.terms is)
       by None is =

@@ -1,17 +1,19 @@
 -- The start's row stands for the start as a search state.
 use Rattle.std.proofs.Common.{◌≡◌, ℕ, suc, ◌+◌, Bool, true, false, not, ◌&&◌, ◌||◌, cond, List, [], ◌∷◌, map, length, Option, Some, None, refl, sym, ap, ◌∙◌, arith}
-use Rattle.std.specs.Prelude.{get_or}
-use Rattle.std.specs.List.{list_any, position_or_len}
+use Rattle.std.specs.Prelude.{get_or, IfSome}
+use Rattle.std.specs.List.{AllByRecursion, list_any, position_or_len}
 use Rattle.std.specs.Option.{is_some}
 use Rattle.std.proofs.lemmas.Bool.{false≢true}
 use Rattle.std.proofs.lemmas.List.{get_or_past, length-map}
-use Rattle.mf_fraction.specs.Exact.{Number}
+use Rattle.std.proofs.lemmas.List.Elements.{All-from_recursion}
+use Rattle.mf_fraction.specs.Exact.{Number, Proper}
 use Rattle.mf_store.specs.Rows.{bit_in}
 use Rattle.mf_model.specs.declared.task.Atom.{Atom}
 use Rattle.mf_model.specs.declared.task.Cell.{Cell}
 use Rattle.mf_model.specs.declared.task.TypedTask.{TypedTask}
 use Rattle.mf_model.specs.declared.state.Instance.{Instance}
 use Rattle.mf_model.specs.Functions.{is_constant, is_cost, is_static}
+use Rattle.mf_model.specs.ResolvedTask.{IsResolvedTask}
 use Rattle.mf_model.specs.SearchStates.{search_state}
 use Rattle.mf_model.specs.States.{is_atom, start_of, value_at}
 use Rattle.mf_meaning.proofs.CostValues.{is_no_cost}
@@ -24,7 +26,9 @@ use Rattle.mf_task.specs.Rows.{IsRowOf, word_count}
 use Rattle.mf_task.specs.RowStates.{state_of}
 use Rattle.mf_bridge.proofs.CoveredTerms.{start_terms_covered}
 use Rattle.mf_bridge.proofs.FluentAtoms.{start_atoms_covered}
+use Rattle.mf_bridge.specs.StoredRows.{HasLowestValues}
 use Rattle.mf_bridge.proofs.RowBits.{bit_of_words, length_words}
+use Rattle.mf_bridge.proofs.RowSights.{start_is_lowest}
 use Rattle.mf_bridge.proofs.StateLookups.{constant_in_state, cost_in_state, listed_in_state, listed_value_in_state, packed_is_listed, row_state_is_sorted, static_in_state}
 
 -- what is made of the first that passes
@@ -109,3 +113,12 @@ module _ (task : TypedTask) (instances : List Instance) where
       values f os constant true c k = cost_in_state task (ground_of task instances) (packed_is_listed task instances) (ground_of task instances).start f os k ∙ rw k refl
       values f os true false c k = constant_in_state task (ground_of task instances) (packed_is_listed task instances) (ground_of task instances).start f os c k ∙ rw k refl
       values f os false false c k = listed_value_in_state task (ground_of task instances) (packed_is_listed task instances) (ground_of task instances).start f os c ∙ term_at_start f os c k ∙ rw k refl
+
+  -- its values are in lowest terms
+
+  each_lowest : IsResolvedTask task → (cells : List Cell) → AllByRecursion (λ value. IfSome value Proper) (map value_at_start cells)
+  each_lowest resolved [] = tt
+  each_lowest resolved (cell ∷ cells) = (start_is_lowest task resolved cell.function cell.objects, each_lowest resolved cells)
+
+  pub start_has_lowest_values : IsResolvedTask task → HasLowestValues (ground_of task instances).start
+  start_has_lowest_values resolved = All-from_recursion (λ value. IfSome value Proper) (ground_of task instances).start.values (each_lowest resolved (terms_of task instances))

@@ -1,5 +1,4 @@
 ghost use Rattle.std.specs.Prelude.{◌≡◌, ℕ, List, [], map, slice_get, Contains, Some};
-ghost use Rattle.std.specs.List.{AllByRecursion};
 ghost use Rattle.mf_model.specs.declared.state.Instance.{Instance};
 ghost use Rattle.mf_model.specs.declared.task.Action.{Action};
 ghost use Rattle.mf_model.specs.declared.task.Cond.{Cond};

@@ -29,7 +29,9 @@ pub use rows::{
     rows_are_told_apart_by_states, rows_show_their_states, rows_stand_for_search_states,
     starts_are_start_rows,
 };
-pub use successors::{successors_are_ground_successors, values_are_ground_values};
+pub use successors::{
+    start_rows_are_roots, successors_are_ground_successors, values_are_ground_values,
+};
 pub use unlisted_atoms::rows_hide_unlisted_atoms;
 
 #[cfg(test)]

@@ -35,8 +35,10 @@ pub fn rows_are_told_apart_by_states()
     ensures list { (task : TypedTask) (instances : List Instance) (rows : List RowLists) (row : RowLists) → All (IsRowOf (ground_of task instances)) rows → IsRowOf (ground_of task instances) row → All HasWords rows → HasWords row → (Contains (map (state_of task (ground_of task instances)) rows) (state_of task (ground_of task instances) row) ↔ Contains rows row) }
 {}
 
-/// The start's row is of the task's shape, and stands for the start without the terms of cost functions.
+/// The start's row is of the task's shape, and stands for the start without the terms of cost functions. In a resolved task its
+/// values are in lowest terms.
 pub fn starts_are_start_rows()
     ensures state { (task : TypedTask) (instances : List Instance) → state_of task (ground_of task instances) (ground_of task instances).start ≡ search_state task (start_of task) }
     ensures shape { (task : TypedTask) (instances : List Instance) → IsRowOf (ground_of task instances) (ground_of task instances).start }
+    ensures lowest { (task : TypedTask) (instances : List Instance) → IsResolvedTask task → HasLowestValues (ground_of task instances).start }
 {}

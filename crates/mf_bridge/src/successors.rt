@@ -1,4 +1,4 @@
-ghost use Rattle.std.specs.Prelude.{◌≡◌, ℕ, List, map, Some, None};
+ghost use Rattle.std.specs.Prelude.{◌≡◌, ℕ, true, List, map, Some, None};
 ghost use Rattle.std.specs.List.{All};
 ghost use Rattle.mf_search.specs.Space.{Listed};
 ghost use Rattle.mf_store.specs.Rows.{RowLists};
@@ -6,7 +6,7 @@ ghost use Rattle.mf_model.specs.ResolvedTask.{IsResolvedTask};
 ghost use Rattle.mf_task.specs.declared.grown.Offspring.{Offspring};
 ghost use Rattle.mf_task.specs.declared.grown.Listed.TheVariants as listed;
 ghost use Rattle.mf_task.specs.declared.value.Value.{Value};
-ghost use Rattle.mf_task.specs.CaseRows.{HasNarrowRow, IsListedOf, IsNarrowRow, IsRoot, IsValueOf, meaning_of, number_of, offspring_of};
+ghost use Rattle.mf_task.specs.CaseRows.{HasNarrowRow, IsListedOf, IsRoot, IsValueOf, meaning_of, number_of, offspring_of};
 ghost use Rattle.mf_task.specs.HeuristicValues.{helpful_of, state_value};
 ghost use Rattle.mf_task.specs.Rows.{IsRowOf, sight_of};
 ghost use Rattle.mf_task.specs.Successors.{Case, packed_of, space_of};
@@ -18,6 +18,11 @@ ghost use Rattle.mf_bridge.specs.StoredRows.{HasLowestValues};
 pub fn values_are_ground_values()
     ensures state { (case : Case) (row : RowLists) → IsRowOf (packed_of case.task) row → (space_of case).value (meaning_of case row) ≡ state_value case.heuristic (packed_of case.task) (sight_of row) }
     ensures row { (case : Case) (row : RowLists) (value : Value) → IsRowOf (packed_of case.task) row → state_value case.heuristic (packed_of case.task) (sight_of row) ≡ number_of value → IsValueOf case row value }
+{}
+
+/// The start's row makes a root where it is narrow.
+pub fn start_rows_are_roots()
+    ensures { (case : Case) (value : Value) → is_narrow (packed_of case.task) (sight_of (packed_of case.task).start) ≡ true → state_value case.heuristic (packed_of case.task) (sight_of (packed_of case.task).start) ≡ number_of value → IsRoot case (record { row = (packed_of case.task).start; value = value }) }
 {}
 
 /// The successor list of the state that a row stands for is the one that is made of the packed task alone: an entry for each

@@ -1,7 +1,7 @@
 -- Each effect of a packed task changes an atom or a term of that task.
-use Rattle.std.proofs.Common.{◌≡◌, ℕ, zero, suc, ◌<◌, Bool, true, false, not, ◌||◌, if◌then◌else◌, nat_eq, nat_lt, List, [], ◌∷◌, ◌++◌, length, map, Option, Some, None, refl, sym, subst, ap, ap₂, ◌∙◌, true≢false}
+use Rattle.std.proofs.Common.{◌≡◌, ℕ, zero, suc, ◌<◌, Bool, true, false, not, ◌||◌, nat_eq, nat_lt, List, [], ◌∷◌, ◌++◌, length, map, Option, Some, refl, sym, subst, ap, ◌∙◌, true≢false}
 use Rattle.std.specs.Prelude.{slice_get, Contains, position}
-use Rattle.std.specs.List.{AllByRecursion, flat_map, list_all, list_any, position_or_len}
+use Rattle.std.specs.List.{AllByRecursion, flat_map, list_all, list_any}
 use Rattle.std.proofs.lemmas.Bool.{eq-eqb, lt-ltb, or_right}
 use Rattle.mf_model.specs.declared.task.Action.{Action}
 use Rattle.mf_model.specs.declared.task.Atom.{Atom}
@@ -22,7 +22,7 @@ use Rattle.mf_task.specs.declared.ground.GroundAction.{GroundAction}
 use Rattle.mf_task.specs.declared.ground.GroundCond.{GroundCond}
 use Rattle.mf_task.specs.declared.ground.GroundEffect.{GroundEffect}
 use Rattle.mf_task.specs.declared.task.Task.{Task}
-use Rattle.mf_task.specs.Grounding.{Numbering, changed_atoms, changed_atoms_step, condition_cells, effect_cells, effect_cells_step, functions_in, ground_cond, ground_effect_step, ground_effects, ground_number_change, ground_of, guarded, is_same_cell, numbering_of, or_nothing, place_or_end, unguarded}
+use Rattle.mf_task.specs.Grounding.{Numbering, changed_atoms, changed_atoms_step, condition_cells, effect_cells, effect_cells_step, ground_cond, ground_effect_step, ground_effects, ground_number_change, ground_of, guarded, is_same_cell, numbering_of, or_nothing, place_or_end}
 use Rattle.mf_bridge.proofs.ActionsMade.{is_made}
 use Rattle.mf_bridge.proofs.CoveredTerms.{instance_terms_covered}
 use Rattle.mf_bridge.proofs.FluentAtoms.{changed_atoms_covered}

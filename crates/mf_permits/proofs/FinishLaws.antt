@@ -1,6 +1,6 @@
 -- A finish: what is answered, and the ledger after it.
-use Rattle.std.proofs.Common.{◌≡◌, ◌≢◌, ℕ, ◌<◌, ◌≤◌, ◌+◌, ◌-◌, ◌++◌, Bool, true, false, List, [], ◌∷◌, Contains, Option, length, get_or, map, set, Some, None, refl, sym, ap, subst, inl, inr, ⊎_elim, rules, ◌∙◌, arith}
-use Rattle.std.specs.Prelude.{◌⊎◌, vec_capacity}
+use Rattle.std.proofs.Common.{◌≡◌, ℕ, ◌<◌, ◌≤◌, ◌+◌, ◌-◌, ◌++◌, true, false, List, [], ◌∷◌, Contains, Option, length, map, set, Some, None, sym, ap, subst, rules, ◌∙◌, arith}
+use Rattle.std.specs.Prelude.{vec_capacity}
 use Rattle.std.specs.List.{All}
 use Rattle.std.proofs.lemmas.List.{length_push, length-set}
 use Rattle.mf_store.specs.Rows.{RowLists}
@@ -11,7 +11,7 @@ use Rattle.mf_search.specs.declared.entry.Entry.TheVariants.{Done, Wide}
 use Rattle.mf_search.specs.Columns.{held_by}
 use Rattle.mf_search.specs.Keys.{HoldsOpen}
 use Rattle.mf_search.specs.Space.{Grown as SpaceGrown, IsListed, LeadsOut, Listed, children_of}
-use Rattle.mf_search.specs.World.{AtWide, Ending, Going, Legal, Opened, World, at, next, open_all, put, world}
+use Rattle.mf_search.specs.World.{Going, Legal, Opened, World, at, open_all, put, world}
 use Rattle.mf_search.proofs.Listing.{put_in_list}
 use Rattle.mf_search.proofs.OneStep.{legal_push, world_push}
 use Rattle.mf_task.specs.declared.grown.Child.{Child}
@@ -19,7 +19,6 @@ use Rattle.mf_task.specs.declared.grown.Grown.{Grown}
 use Rattle.mf_task.specs.declared.grown.Grown.TheVariants as grown
 use Rattle.mf_task.specs.CaseRows.{ExpansionParts, IsGrownOf, IsMadeOf, IsWayOut, child_of, meaning_of}
 use Rattle.mf_task.specs.Successors.{Case, space_of}
-use Rattle.mf_permits.specs.declared.ledger.End.{End}
 use Rattle.mf_permits.specs.declared.ledger.End.TheVariants as ends
 use Rattle.mf_permits.specs.declared.ledger.Ledger.{Ledger}
 use Rattle.mf_permits.specs.declared.tables.Tables.{Tables}

@@ -1,10 +1,9 @@
 -- The ledger after a take.
-use Rattle.std.proofs.Common.{◌≡◌, ◌≢◌, ℕ, ◌<◌, ◌≤◌, ◌+◌, ◌-◌, ◌++◌, Bool, true, false, List, [], ◌∷◌, Contains, Option, length, get_or, map, drop, set, Some, None, refl, sym, ap, subst, inl, inr, ⊎_elim, rules, ◌∙◌, arith}
+use Rattle.std.proofs.Common.{◌≡◌, ◌≢◌, ℕ, ◌<◌, ◌≤◌, ◌+◌, ◌-◌, ◌++◌, true, false, List, [], ◌∷◌, Contains, Option, length, get_or, map, drop, set, Some, None, refl, sym, ap, subst, ⊎_elim, rules, ◌∙◌, arith}
 use Rattle.std.specs.Prelude.{◌⊎◌, ◌↔◌, slice_get, vec_capacity}
 use Rattle.std.specs.List.{All}
 use Rattle.std.proofs.lemmas.List.{length_push, length-map, length-set}
 use Rattle.std.proofs.lemmas.List.Elements.{Contains-push_cases}
-use Rattle.mf_store.specs.Rows.{RowLists}
 use Rattle.mf_store.specs.Stored.{StoredRows}
 use Rattle.mf_open.specs.declared.key.Key.{Key}
 use Rattle.mf_open.specs.Keys.{IsRising}
@@ -12,17 +11,15 @@ use Rattle.mf_open.proofs.Keys.{first_gone, first_kept, first_only, first_there,
 use Rattle.mf_model.specs.declared.state.PlainState.{PlainState}
 use Rattle.mf_search.specs.declared.entry.Entry.{Entry}
 use Rattle.mf_search.specs.declared.entry.Entry.TheVariants.{Take}
-use Rattle.mf_search.specs.declared.maker.Maker.{Maker}
 use Rattle.mf_search.specs.Columns.{held_by}
-use Rattle.mf_search.specs.Keys.{HoldsOpen, KeyFields, OpenIn, key_of}
-use Rattle.mf_search.specs.World.{AtGoal, Going, KeyAtMost, Legal, Opened, World, at, next, put, world}
+use Rattle.mf_search.specs.Keys.{OpenIn}
+use Rattle.mf_search.specs.World.{KeyAtMost, Legal, Opened, World, at, world}
 use Rattle.mf_search.proofs.KeyOrder.{key_antisym}
 use Rattle.mf_search.proofs.Listing.{put_in_list}
 use Rattle.mf_search.proofs.OneStep.{legal_push, next_goal, next_take, world_push}
 use Rattle.mf_search.proofs.OpenKeys.{held_once, holds_take}
 use Rattle.mf_task.specs.CaseRows.{meaning_of}
 use Rattle.mf_task.specs.Successors.{Case, space_of}
-use Rattle.mf_permits.specs.declared.ledger.End.{End}
 use Rattle.mf_permits.specs.declared.ledger.End.TheVariants as ends
 use Rattle.mf_permits.specs.declared.ledger.Ledger.{Ledger}
 use Rattle.mf_permits.specs.declared.tables.Tables.{Tables}

@@ -1,8 +1,8 @@
 -- The tables while states are opened.
-use Rattle.std.proofs.Common.{◌≡◌, ℕ, ◌<◌, ◌≤◌, ◌+◌, ◌++◌, Bool, true, false, List, [], ◌∷◌, Contains, length, get_or, map, take, not, Some, None, refl, sym, ap, subst, inl, inr, ⊎_elim, rules, ◌∙◌, arith}
-use Rattle.std.specs.Prelude.{◌⊎◌, ◌↔◌, slice_get, All}
+use Rattle.std.proofs.Common.{◌≡◌, ℕ, ◌<◌, ◌+◌, ◌++◌, Bool, true, false, List, [], ◌∷◌, Contains, length, get_or, map, take, not, sym, ap, subst, inl, inr, ⊎_elim, rules, ◌∙◌, arith}
+use Rattle.std.specs.Prelude.{◌⊎◌, All}
 use Rattle.std.proofs.lemmas.List.{length-map, map_push, length_push, take_more}
-use Rattle.std.proofs.lemmas.List.Elements.{All-push, All-get_or}
+use Rattle.std.proofs.lemmas.List.Elements.{All-push}
 use Rattle.std.proofs.lemmas.Option.{slice_get_within, get_or_from_slice_get}
 use Rattle.mf_store.specs.Numbers.{Interns}
 use Rattle.mf_store.specs.Rows.{RowLists, HasShape}
@@ -14,11 +14,11 @@ use Rattle.mf_model.specs.declared.state.PlainState.{PlainState}
 use Rattle.mf_model.specs.LiveInstances.{live_instances}
 use Rattle.mf_search.specs.declared.maker.Maker.{Maker}
 use Rattle.mf_search.specs.declared.maker.Maker.TheVariants.{Step}
-use Rattle.mf_search.specs.Keys.{HoldsOpen, KeyFields, key_of}
-use Rattle.mf_search.specs.World.{Opened, WasOpened, at, open_child, open_all}
+use Rattle.mf_search.specs.Keys.{KeyFields, key_of}
+use Rattle.mf_search.specs.World.{Opened, WasOpened, open_all}
 use Rattle.mf_search.proofs.Listing.{opened_in_states}
 use Rattle.mf_search.proofs.Members.{in_map, from_map}
-use Rattle.mf_search.proofs.OneStep.{child_known, child_infinite, child_new, open_more}
+use Rattle.mf_search.proofs.OneStep.{child_known, child_new, open_more}
 use Rattle.mf_search.proofs.OpenKeys.{holds_push}
 use Rattle.mf_task.specs.declared.grown.Child.{Child}
 use Rattle.mf_task.specs.declared.value.Value.TheVariants.{Finite}
@@ -71,6 +71,10 @@ known_row old new row n false interned e = ((n, slice_get_within old.rows n row 
 pub new_row : (old new : StoredRows) (row : RowLists) (n : ℕ) (b : Bool) → Interns old row new (n, b) → b ≡ true → (Contains old.rows row → ⊥) × (n ≡ length old.rows) × (new ≡ with_row old row)
 new_row old new row n false interned e = absurd (search rules)
 new_row old new row n true interned e = interned
+
+pub unknown_row : (old new : StoredRows) (row : RowLists) (n : ℕ) (b : Bool) → Interns old row new (n, b) → (Contains old.rows row → ⊥) → (n ≡ length old.rows) × (new ≡ with_row old row)
+unknown_row old new row n true interned out = (interned.1, interned.2)
+unknown_row old new row n false interned out = absurd (out (n, slice_get_within old.rows n row interned.0, get_or_from_slice_get old.rows n row row interned.0))
 
 -- The row, the value, the maker and the key of one more state are entered.
 pub record Enters (row : RowLists) (value : ℕ) (maker : Maker) (key : Key) (old new : Tables) : Type 0 where

@@ -1,30 +1,24 @@
 -- A take: what is answered, and the ledger after it.
-use Rattle.std.proofs.Common.{◌≡◌, ◌≢◌, ℕ, zero, suc, ◌<◌, ◌≤◌, ◌+◌, ◌-◌, ◌++◌, Bool, true, false, List, [], ◌∷◌, Contains, Option, length, get_or, map, drop, set, Some, None, refl, sym, ap, subst, inl, inr, ⊎_elim, rules, ◌∙◌, arith}
-use Rattle.std.specs.Prelude.{◌⊎◌, ◌↔◌, slice_get, nat_lt, vec_capacity, if◌then◌else◌}
-use Rattle.std.specs.List.{All}
+use Rattle.std.proofs.Common.{◌≡◌, ◌≢◌, ℕ, zero, suc, ◌<◌, ◌≤◌, ◌+◌, ◌-◌, Bool, true, false, List, [], ◌∷◌, Option, length, get_or, map, set, Some, None, refl, sym, ap, subst, inl, inr, ⊎_elim, rules, ◌∙◌, arith}
+use Rattle.std.specs.Prelude.{◌⊎◌, slice_get, nat_lt, if◌then◌else◌}
 use Rattle.std.proofs.lemmas.Bool.{cases_lt, ltb-true, ltb-false}
 use Rattle.std.proofs.lemmas.List.{length-map, get_or_past}
-use Rattle.mf_store.specs.Stored.{StoredRows}
 use Rattle.mf_open.specs.declared.key.Key.{Key}
 use Rattle.mf_open.specs.Keys.{IsBelow, IsRising, rank}
-use Rattle.mf_open.proofs.Keys.{first_there, first_least, first_gone, first_kept, first_only, none_there}
+use Rattle.mf_open.proofs.Keys.{first_there, first_least, none_there}
 use Rattle.mf_model.specs.declared.state.PlainState.{PlainState}
-use Rattle.mf_search.specs.declared.entry.Entry.{Entry}
 use Rattle.mf_search.specs.declared.entry.Entry.TheVariants.{Take}
-use Rattle.mf_search.specs.declared.maker.Maker.{Maker}
 use Rattle.mf_search.specs.Answers.{AllIdle}
 use Rattle.mf_search.specs.Columns.{held_by}
-use Rattle.mf_search.specs.Keys.{FieldsAtMost, HoldsOpen, KeyFields, OpenIn, key_of}
-use Rattle.mf_search.specs.World.{AtGoal, Ending, Going, IsOpen, KeyAtMost, Legal, MayTake, Opened, World, at, world}
+use Rattle.mf_search.specs.Keys.{FieldsAtMost, KeyFields, OpenIn}
+use Rattle.mf_search.specs.World.{Going, IsOpen, KeyAtMost, Opened, World, at}
 use Rattle.mf_search.proofs.Checking.{goes_on}
-use Rattle.mf_search.proofs.KeyOrder.{key_antisym, key_value}
-use Rattle.mf_search.proofs.Listing.{nothing_held, put_in_list, value_of_at}
-use Rattle.mf_search.proofs.OneStep.{legal_in_budget, legal_push, next_goal, next_take, world_push}
-use Rattle.mf_search.proofs.OpenKeys.{held_once, holds_take, least_held, none_held}
-use Rattle.mf_search.proofs.Sound.{Sound, legal_sound}
-use Rattle.mf_task.specs.CaseRows.{meaning_of}
+use Rattle.mf_search.proofs.KeyOrder.{key_value}
+use Rattle.mf_search.proofs.Listing.{nothing_held, value_of_at}
+use Rattle.mf_search.proofs.OneStep.{legal_in_budget}
+use Rattle.mf_search.proofs.OpenKeys.{least_held, none_held}
+use Rattle.mf_search.proofs.Sound.{legal_sound}
 use Rattle.mf_task.specs.Successors.{Case, space_of}
-use Rattle.mf_permits.specs.declared.answers.Taken.{Taken}
 use Rattle.mf_permits.specs.declared.answers.Taken.TheVariants as taken
 use Rattle.mf_permits.specs.declared.holding.Held.{Held}
 use Rattle.mf_permits.specs.declared.ledger.End.{End}
@@ -33,8 +27,7 @@ use Rattle.mf_permits.specs.declared.ledger.Ledger.{Ledger}
 use Rattle.mf_permits.specs.declared.tables.Tables.{Tables}
 use Rattle.mf_permits.specs.Core.{HasLeastBusy, IsOver, MayCome, TakeAnswers, value_in, world_of}
 use Rattle.mf_permits.specs.Ledger.{HoldOpened, IsFirstLeast, IsLeastHeld, Keeps, Shows, choice_of, ending_of, idle_count, is_going, seen_of}
-use Rattle.mf_permits.specs.Tables.{AreTables, IsWhole, fields_of}
-use Rattle.mf_permits.proofs.TableLaws.{as_many}
+use Rattle.mf_permits.specs.Tables.{AreTables, fields_of}
 
 -- Ends
 
@@ -111,7 +104,7 @@ first_is_least case os taken t key tables rising first =
 first_value : (case : Case) (os : List (Opened PlainState)) (taken : List ℕ) (t : Tables) (key : Key) → AreTables case os taken t → slice_get t.open_list.keys 0 ≡ Some key → key.value ≡ (at (space_of case) os key.state).value
 first_value case os taken t key tables first = ap (λ (f : KeyFields). f.value) (tables.open_keys.only key (first_there key t.open_list.keys first)).1
 
-nothing_open : (case : Case) (os : List (Opened PlainState)) (taken : List ℕ) (t : Tables) → AreTables case os taken t → slice_get t.open_list.keys 0 ≡ None → (i : ℕ) → OpenIn os taken i → ⊥
+pub nothing_open : (case : Case) (os : List (Opened PlainState)) (taken : List ℕ) (t : Tables) → AreTables case os taken t → slice_get t.open_list.keys 0 ≡ None → (i : ℕ) → OpenIn os taken i → ⊥
 nothing_open case os taken t tables none = none_held (space_of case) os taken fields_of t.open_list.keys tables.open_keys (λ key held. none_there key t.open_list.keys none held)
 
 -- What is answered
@@ -130,7 +123,7 @@ pub record Asks (case : Case) (l : Ledger) (worker : ℕ) : Type 0 where
 pub is_idle : (case : Case) (l : Ledger) (worker : ℕ) → Keeps case l → 1 ≤ worker → get_or l.busy.items (worker - 1) None ≡ None → (world_of case (seen_of l)).busy worker ≡ None
 is_idle case l worker keeps low none = keeps.shows.busy worker ∙ held_at l.busy.items worker low ∙ none
 
-all_are_idle : (case : Case) (l : Ledger) → Keeps case l → IsLeastHeld l.busy.items l.tables.values.items (length l.busy.items) None → AllIdle (world_of case (seen_of l))
+pub all_are_idle : (case : Case) (l : Ledger) → Keeps case l → IsLeastHeld l.busy.items l.tables.values.items (length l.busy.items) None → AllIdle (world_of case (seen_of l))
 all_are_idle case l keeps none v = keeps.shows.busy v ∙ nothing_held l.busy.items none v
 
 goes_on_so : (case : Case) (l : Ledger) (worker : ℕ) → Asks case l worker → (world_of case (seen_of l)).ending ≡ Going

@@ -1,15 +1,13 @@
 -- What is seen of a core, and what each of its calls tells.
-use Rattle.std.specs.Prelude.{◌≡◌, ◌≢◌, ◌↔◌, ℕ, ◌<◌, ◌≤◌, ◌⊎◌, ◌++◌, Bool, true, false, List, [], ◌∷◌, Option, Some, None, length, map}
-use Rattle.std.specs.List.{All}
+use Rattle.std.specs.Prelude.{◌≡◌, ◌≢◌, ℕ, ◌<◌, ◌≤◌, ◌⊎◌, ◌++◌, Bool, true, false, List, [], ◌∷◌, Some, None, length}
 use Rattle.mf_store.specs.Rows.{RowLists}
 use Rattle.mf_model.specs.declared.state.PlainState.{PlainState}
 use Rattle.mf_search.specs.declared.entry.Entry.{Entry}
 use Rattle.mf_search.specs.declared.entry.Entry.TheVariants.{Take, Done, Wide}
 use Rattle.mf_search.specs.Answers.{AllIdle, Ended}
-use Rattle.mf_search.specs.World.{Opened, World, Going, IsOpen, Legal, May, at, world}
+use Rattle.mf_search.specs.World.{World, Going, IsOpen, Legal, May, at, world}
 use Rattle.mf_task.specs.declared.grown.Grown.{Grown}
 use Rattle.mf_task.specs.declared.grown.Grown.TheVariants as grown
-use Rattle.mf_task.specs.declared.history.History.{History}
 use Rattle.mf_task.specs.CaseRows.{ExpansionParts, IsNarrowRow, meaning_of}
 use Rattle.mf_task.specs.Successors.{Case, space_of}
 use Rattle.mf_permits.specs.declared.answers.Taken.{Taken}
@@ -126,11 +124,3 @@ IsMadeAt case seen worker made = (world_of case seen).busy worker ≡ Some made.
 pub record HaltTells (case : Case) (old new : Seen) : Type 0 where
   pub answered : Ended case.budget (world_of case old) → new ≡ old
   pub running : (Ended case.budget (world_of case old) → ⊥) → new ≡ with_halt old
-
--- The history of the core: the rows, values and makers of the opened states, and the entries.
-pub record IsHistoryOf (case : Case) (seen : Seen) (history : History) : Type 0 where
-  pub entries : history.entries ≡ seen.entries
-  pub rows : All (IsNarrowRow case) history.rows
-  pub states : map (meaning_of case) history.rows ≡ map (λ o. o.state) (world_of case seen).opened
-  pub values : history.values ≡ map (λ o. o.value) (world_of case seen).opened
-  pub makers : history.makers ≡ map (λ o. o.maker) (world_of case seen).opened

@@ -1,7 +1,9 @@
 -- What a core keeps, against the world of its entries.
-use Rattle.std.specs.Prelude.{◌≡◌, ℕ, zero, suc, ◌+◌, ◌<◌, ◌≤◌, ◌⊎◌, Bool, true, false, nat_lt, if◌then◌else◌, List, [], ◌∷◌, Option, Some, None, length, get_or, vec_capacity}
+use Rattle.std.specs.Prelude.{◌≡◌, ℕ, suc, ◌+◌, ◌<◌, ◌≤◌, ◌⊎◌, Bool, true, false, nat_lt, if◌then◌else◌, List, [], ◌∷◌, Option, Some, None, length, get_or, vec_capacity}
 use Rattle.mf_open.specs.declared.key.Key.{Key}
 use Rattle.mf_model.specs.declared.state.PlainState.{PlainState}
+use Rattle.mf_search.specs.declared.status.Status.{Status}
+use Rattle.mf_search.specs.declared.status.Status.TheVariants.{Budget, Halted, NoPlan, Running}
 use Rattle.mf_search.specs.Columns.{held_by}
 use Rattle.mf_search.specs.World.{World, Ending, Going, AtGoal, AtWide, Legal, world}
 use Rattle.mf_task.specs.Successors.{Case, space_of}
@@ -12,7 +14,7 @@ use Rattle.mf_permits.specs.declared.ledger.End.TheVariants as ends
 use Rattle.mf_permits.specs.declared.ledger.Ledger.{Ledger}
 use Rattle.mf_permits.specs.declared.holding.Held.{Held}
 use Rattle.mf_permits.specs.Core.{Seen}
-use Rattle.mf_permits.specs.Tables.{AreTables, IsWhole}
+use Rattle.mf_permits.specs.Tables.{AreTables, IsWhole, values_of, words_of}
 
 abbrev pub ending_of : End → Ending
 ending_of ends.Going = Going
@@ -76,3 +78,21 @@ pub record Keeps (case : Case) (l : Ledger) : Type 0 where
 -- What is seen of the ledger.
 abbrev pub seen_of : Ledger → Seen
 seen_of l = record { entries = l.entries.items; workers = length l.busy.items; halted = l.halted }
+
+-- The status of a search that goes on, by the least state in expansion, the least key of an open state, and whether as
+-- many states were taken as the budget allows.
+abbrev pub unanswered : Bool → Status
+unanswered true = Halted
+unanswered false = Running
+
+abbrev pub status_of : Option Held → Option Key → Bool → Bool → Status
+status_of None None spent halted = NoPlan
+status_of None (Some key) true halted = Budget
+status_of None (Some key) false halted = unanswered halted
+status_of (Some held) first spent halted = unanswered halted
+
+-- The ledger is kept in step, and these are the numbers of words of bits and of values of a row.
+pub record IsCore (case : Case) (l : Ledger) (words values : ℕ) : Type 0 where
+  pub keeps : Keeps case l
+  pub words_are : words ≡ words_of case
+  pub values_are : values ≡ values_of case

@@ -1,3 +1,4 @@
+pub mod Boards
 pub mod Core
 pub mod Ledger
 pub mod Tables

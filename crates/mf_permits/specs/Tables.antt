@@ -2,7 +2,6 @@
 use Rattle.std.specs.Prelude.{◌≡◌, ℕ, ◌+◌, ◌<◌, ◌≤◌, List, Contains, length, map, vec_capacity}
 use Rattle.std.specs.List.{All}
 use Rattle.mf_store.specs.Rows.{RowLists, HasShape}
-use Rattle.mf_store.specs.Stored.{StoredRows}
 use Rattle.mf_open.specs.declared.key.Key.{Key}
 use Rattle.mf_model.specs.declared.state.PlainState.{PlainState}
 use Rattle.mf_search.specs.Keys.{KeyFields, HoldsOpen}

@@ -1,4 +1,4 @@
-ghost use Rattle.std.specs.Prelude.{◌≡◌};
+ghost use Rattle.std.specs.Prelude.{◌≡◌, nat_eq};
 ghost use Rattle.mf_permits.specs.Ledger.{is_going};
 
 use crate::tables::Tables;
@@ -33,4 +33,13 @@ pub(crate) struct Ledger {
     pub halted: bool,
     /// How many states may be taken.
     pub budget: u64,
+}
+
+impl Ledger {
+    /// Whether as many states were taken as the budget allows.
+    pub(crate) fn is_spent(&self) -> bool
+        ensures { result ≡ nat_eq self.now.takes self.now.budget }
+    {
+        self.takes == self.budget
+    }
 }

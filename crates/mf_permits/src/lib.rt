@@ -3,12 +3,20 @@
 #![tactic(auto)]
 
 mod answers;
+mod beginning;
+mod board;
+mod ending;
 mod finishing;
+mod history;
 mod holding;
 mod ledger;
 mod opening;
+mod permits;
+mod reading;
 mod reserving;
 mod tables;
 mod taking;
 
 pub use answers::{Finished, Taken, Unkept};
+pub use board::{Board, Busy, Refused};
+pub use permits::Core;

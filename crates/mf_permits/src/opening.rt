@@ -2,13 +2,15 @@ ghost use Rattle.mf_bridge.specs.StoredRows.{HasWords};
 ghost use Rattle.mf_permits.specs.Tables.{HasRoom, IsWhole, OpensChild, OpensList};
 ghost use Rattle.mf_search.specs.Keys.{is_plain};
 ghost use Rattle.mf_open.specs.Keys.{with_key};
+ghost use Rattle.mf_store.specs.Rows.{HasShape};
+ghost use Rattle.mf_store.specs.Stored.{with_row};
 ghost use Rattle.mf_task.specs.CaseRows.{IsChildOf};
 ghost use Rattle.std.specs.Prelude.{◌≡◌, ◌+◌, ◌++◌, ◌∷◌, ◌<◌, ◌≤◌, ℕ, [], All, Contains, length, vec_capacity};
 
 use crate::tables::Tables;
 use mf_open::Key;
 use mf_search::Maker;
-use mf_store::Row;
+use mf_store::{Row, Store};
 use mf_task::{Child, Naming, Value};
 
 // The words of a row fit their type.
@@ -18,6 +20,20 @@ pub(crate) fn words_fit(row: &Row)
     for word in row.bits() {
         let _fits = *word;
     }
+}
+
+// The number of a row that is new.
+pub(crate) fn intern_new(store: &mut Store, row: &Row) -> u64
+    requires shape { HasShape store.old.word_count store.old.value_count row.now }
+    requires room { 0 < store.old.room }
+    requires is_new { Contains store.old.rows row.now → ⊥ }
+    ensures number { result ≡ length store.old.rows }
+    ensures added { store.new ≡ with_row store.old row.now }
+{
+    let Ok((number, _is_new)) = store.intern(row) else {
+        unreachable!()
+    };
+    number
 }
 
 // Enters the value, the maker and the key of the state of this number, the last row of the store.

@@ -1,4 +1,5 @@
-ghost use Rattle.mf_permits.specs.Core.{TakeAnswers, TakeTells, MayCome, with_entry, world_of};
+ghost use Rattle.mf_permits.specs.Core.{TakeAnswers, TakeTells, MayCome, WritesRow, with_entry, world_of};
+ghost use Rattle.mf_permits.specs.Tables.{HasTaskShape};
 ghost use Rattle.mf_permits.specs.Ledger.{Keeps, choice_of, seen_of};
 ghost use Rattle.mf_search.specs.declared.entry.Entry.TheVariants.{Take};
 ghost use Rattle.std.specs.Prelude.{◌≡◌, ◌≤◌, length};
@@ -6,8 +7,10 @@ ghost use Rattle.std.specs.Prelude.{◌≡◌, ◌≤◌, length};
 use crate::Taken;
 use crate::holding::{Held, least_held};
 use crate::ledger::{End, Ledger};
+use crate::reading::write_row;
 use mf_open::Key;
 use mf_search::Entry;
+use mf_store::Row;
 use mf_task::Naming;
 
 // The answer by the least key of an open state and the least state in expansion.
@@ -44,7 +47,7 @@ pub(crate) fn decide<N: Naming>(ledger: &Ledger, worker: u16) -> Taken
     if ledger.halted {
         return Taken::Ended;
     }
-    if ledger.takes == ledger.budget {
+    if ledger.is_spent() {
         return Taken::Ended;
     }
     let least = least_held(ledger.busy.as_slice(), ledger.tables.values.as_slice());
@@ -81,4 +84,25 @@ pub(crate) fn take<N: Naming>(ledger: &mut Ledger, worker: u16) -> Taken
         go::<N>(ledger, worker, state);
     }
     taken
+}
+
+// The worker asks for a state, whose row is then written.
+pub(crate) fn take_into<N: Naming>(ledger: &mut Ledger, worker: u16, into: &mut Row) -> Taken
+    requires kept { Keeps N.case ledger.old }
+    requires low { 1 ≤ worker }
+    requires high { worker ≤ length ledger.old.busy.items }
+    requires shape { HasTaskShape N.case into.old }
+    ensures kept { Keeps N.case ledger.new }
+    ensures tells { TakeTells N.case (seen_of ledger.old) (seen_of ledger.new) worker result }
+    ensures row { WritesRow N.case (world_of N.case (seen_of ledger.old)) into.old into.new result }
+{
+    match take::<N>(ledger, worker) {
+        Taken::Go { state } => {
+            write_row::<N>(ledger, state, into);
+            Taken::Go { state }
+        }
+        Taken::Again { state } => Taken::Again { state },
+        Taken::Ended => Taken::Ended,
+        Taken::NotYet { worker, value } => Taken::NotYet { worker, value },
+    }
 }

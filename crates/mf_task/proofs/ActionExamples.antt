@@ -16,9 +16,7 @@ use Rattle.mf_task.specs.declared.task.Task.{Task}
 use Rattle.mf_task.specs.GroundMeaning.{action_firing, is_ground_applicable, is_ground_goal, next_sight}
 use Rattle.mf_task.specs.Rows.{Sight}
 use Rattle.mf_task.specs.Width.{way_out}
-
-abbrev always : GroundChange → GroundEffect
-always made = record { condition = node.Fact true; change = made }
+use Rattle.mf_task.proofs.AtomTasks.{always}
 
 abbrev acting : GroundCond → List GroundEffect → GroundAction
 acting condition effects = record { instance = record { action = 0; objects = [] }; condition = condition; effects = effects }

@@ -1,5 +1,4 @@
 use Rattle.std.proofs.Common.{subst}
-use Rattle.mf_model.specs.declared.state.Instance.{Instance}
 use Rattle.mf_model.specs.LiveInstances.{live_instances}
 use Rattle.mf_meaning.specs.SearchPlans.{IsSearchPlanFrom}
 use Rattle.mf_meaning.proofs.ReachedStates.{live_plan}

@@ -1,4 +1,4 @@
-use Rattle.std.proofs.Common.{◌+◌, ◌≤◌, length, refl, arith}
+use Rattle.std.proofs.Common.{refl}
 use Rattle.mf_permits.proofs.FinishLaws.{keeps_done}
 use Rattle.mf_permits.proofs.finishing.be_done.Goals as goal
 

@@ -1,9 +1,6 @@
-use Rattle.std.proofs.Common.{◌≡◌, ◌++◌, ◌∷◌, [], ℕ, refl, sym, ap, ◌∙◌}
-use Rattle.mf_open.specs.declared.key.Key.{Key}
-use Rattle.mf_store.specs.Stored.{StoredRows}
+use Rattle.std.proofs.Common.{◌∙◌}
 use Rattle.mf_search.specs.declared.maker.Maker.TheVariants.{Step}
-use Rattle.mf_permits.specs.declared.tables.Tables.{Tables}
-use Rattle.mf_permits.proofs.TableLaws.{Enters, child_entered, child_passed, key_is_new, known_row, narrow_shape, new_row, store_shape, whole_after}
+use Rattle.mf_permits.proofs.TableLaws.{child_entered, child_passed, key_is_new, known_row, narrow_shape, new_row, store_shape, whole_after}
 use Rattle.mf_permits.proofs.opening.open_child.Goals as goal
 
 pub intern-requires : goal.intern-requires

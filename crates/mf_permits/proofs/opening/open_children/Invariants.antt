@@ -1,4 +1,4 @@
-use Rattle.std.proofs.Common.{◌+◌, ◌-◌, length, take}
+use Rattle.std.proofs.Common.{◌-◌, length, take}
 use Rattle.mf_permits.specs.Tables.{HasRoom, IsWhole, OpensList}
 use Rattle.mf_permits.proofs.opening.open_children.Given as goal
 

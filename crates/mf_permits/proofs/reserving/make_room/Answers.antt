@@ -1,4 +1,4 @@
-use Rattle.std.proofs.Common.{refl, arith}
+use Rattle.std.proofs.Common.{refl}
 use Rattle.mf_permits.proofs.FinishLaws.{keeps_same}
 use Rattle.mf_permits.proofs.reserving.make_room.Goals as goal
 

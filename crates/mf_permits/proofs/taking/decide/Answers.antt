@@ -1,7 +1,7 @@
-use Rattle.std.proofs.Common.{◌≡◌, ◌<◌, ◌-◌, ℕ, List, Option, None, length, subst, sym, ◌∙◌, arith}
+use Rattle.std.proofs.Common.{◌<◌, ◌-◌, ℕ, List, Option, None, length, subst, sym, ◌∙◌, arith}
+use Rattle.std.proofs.lemmas.Bool.{eq-eqb, false≢true}
 use Rattle.std.proofs.lemmas.List.{get_or_default}
 use Rattle.mf_permits.specs.declared.answers.Taken.{Taken}
-use Rattle.mf_permits.specs.declared.holding.Held.{Held}
 use Rattle.mf_permits.specs.Core.{TakeAnswers, world_of}
 use Rattle.mf_permits.specs.Ledger.{HoldOpened, IsLeastHeld, seen_of}
 use Rattle.mf_permits.proofs.TakeLaws.{chosen, hold_opened}
@@ -28,6 +28,6 @@ returns g c =
       idle = get_or_default c.args.ledger.now.busy.items (c.args.worker - 1) None c.index.result.now within ∙ sym c.index.ensures ∙ c.in_default.is;
       going = sym c.is_going.ensures ∙ c.if-not-is_going.false;
       halted = c.if-ledger.false;
-      takes = λ e. c.if-ledger-2.false e;
+      takes = λ e. false≢true (sym c.if-is_spent.false ∙ c.is_spent.ensures ∙ eq-eqb c.args.ledger.now.takes c.args.ledger.now.budget e);
       rising = c.least.ensures.rising;
     }) c.least.ensures.value held)

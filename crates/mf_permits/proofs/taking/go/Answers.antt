@@ -1,4 +1,4 @@
-use Rattle.std.proofs.Common.{◌≡◌, ◌≢◌, ℕ, List, get_or, refl, sym, ap, ◌∙◌, arith}
+use Rattle.std.proofs.Common.{refl, sym, ◌∙◌, arith}
 use Rattle.std.proofs.lemmas.List.{get_or_default}
 use Rattle.mf_permits.proofs.GoLaws.{keeps_goal, keeps_held, room_for_take, values_within}
 use Rattle.mf_permits.proofs.taking.go.Goals as goal
