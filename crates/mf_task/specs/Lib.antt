@@ -9,6 +9,7 @@ pub mod NoCase
 pub mod RelaxedPlan
 pub mod RowStates
 pub mod Rows
+pub mod SameForms
 pub mod SameStates
 pub mod Successors
 pub mod WideForms
